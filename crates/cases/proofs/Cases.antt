@@ -1,0 +1,24 @@
+-- T1 to T12 and the example's states are what document 01 says: both lists compute to the same.
+use mathlib.Core.Path.{_≡_, refl}
+use Rattle.term.specs.Table.{rowsOf, tableOf, tableIn, kindOf, placeUnder}
+use Rattle.term.specs.Accepted.{partBy, partAt, accepted}
+use Rattle.reader.specs.Bytes.{classOf}
+use Rattle.reader.specs.Tokens.{pieces}
+use Rattle.reader.specs.Parse.{phraseAt, parse}
+use Rattle.reader.specs.Binding.{indexOf, nameless}
+use Rattle.reader.specs.Reading.{meant, readerNumber, readOf}
+use Rattle.machine.specs.Machine.{goDown, goUp, stepBy, afterFrom}
+use Rattle.machine.specs.Slice.{slice, putOnLog, readLog, putOnTape, readTape, allZero}
+use Rattle.session.specs.Stops.{stopAhead, stopBehind}
+use Rattle.session.specs.Winding.{wind}
+use Rattle.session.specs.Held.{wellFormed, stateIn}
+use Rattle.session.specs.Calls.{openNumber, callNumber, openOf, forwardOf, backOf, goToOf}
+use Rattle.cases.specs.Cases.{exampleText, identityText, openText, example, identity, fresh, next, stranded, states, withStates, cases, at, leaf, stands, results}
+
+pub cases-hold : cases ≡ results
+unfolding exampleText identityText openText example identity fresh next stranded states withStates cases at leaf stands results
+    rowsOf tableOf tableIn kindOf placeUnder partBy partAt accepted
+    classOf pieces phraseAt parse indexOf nameless meant readerNumber readOf
+    goDown goUp stepBy afterFrom slice putOnLog readLog putOnTape readTape allZero
+    stopAhead stopBehind wind wellFormed stateIn openNumber callNumber openOf forwardOf backOf goToOf
+cases-hold = refl

@@ -1,0 +1,59 @@
+-- No step lengthens both lists: what one gains in words, the other has given.
+use mathlib.Core.Path.{_≡_, sym, ap, _∙_, subst}
+use mathlib.Core.Bool.{Bool, true, false, cond}
+use mathlib.Core.Option.{Option, none, some}
+use mathlib.Core.List.{[], _∷_}
+use Prim.Native.Nat.{ℕ, _+_, _≤_}
+use native.Mathlib.Omega.{arith}
+use lib.ListN.{length, length-append}
+use lib.Dec.{leb}
+use Rattle.term.specs.Table.{Table, arity, Kind, variable, abstraction, application, nothing, kindAt, Place, bodyOf, functionOf, argumentOf, nowhere, placeAt}
+use Rattle.machine.specs.Entries.{entry, Log, ε, _▸_, howMany, top, rest, bullet, held, Tape, entryWords, logWords, tapeWords}
+use Rattle.machine.specs.Machine.{Dir, down, up, State, state, boundAt, goDown, goUp, stepBy, step}
+use Rattle.machine.proofs.Logs.{top-rest, words-onto}
+
+-- of the lists of s, at most one is longer in u
+pub data NotBoth (s u : State) : Type 0 where
+  log-no-longer : length (logWords (u .log)) ≤ length (logWords (s .log)) → NotBoth s u
+  tape-no-longer : length (tapeWords (u .tape)) ≤ length (tapeWords (s .tape)) → NotBoth s u
+
+abbrev NotBothIf : State → Option State → Type 0
+NotBothIf s none = Unit
+NotBothIf s (some u) = NotBoth s u
+
+pub rest-no-longer : (a : ℕ) (L : Log) → length (logWords (rest a L)) ≤ length (logWords L)
+rest-no-longer a L =
+    let whole : length (logWords L) ≡ length (logWords (top a L)) + length (logWords (rest a L))
+    = ap (λ M. length (logWords M)) (sym (top-rest a L)) ∙ ap length (words-onto (top a L) (rest a L)) ∙ length-append (logWords (top a L)) (logWords (rest a L)) in
+    omega arith
+
+on-test : (b : Bool) {s u : State} → NotBoth s u → NotBothIf s (cond b (some u) none)
+on-test true h = h
+on-test false h = tt
+
+by-kind : (T : Table) (i : ℕ) (L : Log) (t : Tape) (k : Kind) → NotBothIf (state i down L t) (goDown T i k L t)
+unfolding goDown
+by-kind T i L t application = log-no-longer (omega arith)
+by-kind T i L [] abstraction = tt
+by-kind T i L (bullet ∷ t) abstraction = log-no-longer (omega arith)
+by-kind T i L (held (entry v es) ∷ t) abstraction = on-test (boundAt T i v) (tape-no-longer (omega (arith, length-append (v ∷ logWords es) (tapeWords t))))
+by-kind T i L t variable = on-test (leb (arity T i) (howMany L)) (log-no-longer (search rest-no-longer))
+by-kind T i L t nothing = tt
+
+by-place : (T : Table) (i : ℕ) (L : Log) (t : Tape) (q : Place) → NotBothIf (state i up L t) (goUp T q L t)
+unfolding goUp
+by-place T i L [] (functionOf p) = tt
+by-place T i L (bullet ∷ t) (functionOf p) = log-no-longer (omega arith)
+by-place T i L (held e ∷ t) (functionOf p) = tape-no-longer (omega (arith, length-append (entryWords e) (tapeWords t)))
+by-place T i L t (bodyOf p) = log-no-longer (omega arith)
+by-place T i ε t (argumentOf p) = tt
+by-place T i (e ▸ L) t (argumentOf p) = log-no-longer (omega (arith, length-append (entryWords e) (logWords L)))
+by-place T i L t nowhere = tt
+
+by-step : (T : Table) (i : ℕ) (d : Dir) (L : Log) (t : Tape) → NotBothIf (state i d L t) (stepBy T i d L t)
+unfolding stepBy
+by-step T i down L t = by-kind T i L t (kindAt T i)
+by-step T i up L t = by-place T i L t (placeAt T i)
+
+pub never-both : (T : Table) (s u : State) → step T s ≡ some u → NotBoth s u
+never-both T s u e = subst (NotBothIf s) e (by-step T (s .node) (s .dir) (s .log) (s .tape))

@@ -1,0 +1,5 @@
+pub mod Entries
+pub mod Machine
+pub mod Good
+pub mod Slice
+pub mod Span

@@ -1,0 +1,7 @@
+pub mod Session
+pub mod Stops
+pub mod Winding
+pub mod Held
+pub mod Counting
+pub mod Calls
+pub mod Demand

@@ -1,0 +1,46 @@
+-- Document 01, "A session and its calls": what a session carries, and what each call answers.
+use mathlib.Core.List.{List}
+use Prim.Native.Nat.{ℕ}
+use Rattle.machine.specs.Machine.{Dir}
+
+-- "A session carries node, direction as one of two named cases, position, and the lengths in words of log and tape."
+pub record Session : Type 0 where
+  pub node : ℕ
+  pub dir : Dir
+  pub position : ℕ
+  pub logLength : ℕ
+  pub tapeLength : ℕ
+
+-- "A stop is one of several named cases, the answer case carrying its node."
+pub data Stop : Type 0 where
+  spent jam far start logFull tapeFull : Stop
+  answer : ℕ → Stop
+
+-- "A refusal's number comes instead of a stop."
+pub data Outcome : Type 0 where
+  stopped : Stop → Outcome
+  refused : ℕ → Outcome
+
+-- What forward, back and go-to answer, "the session, the steps made, the stop, and the peak", and both slices after the call.
+pub record Answer : Type 0 where
+  pub session : Session
+  pub steps : ℕ
+  pub outcome : Outcome
+  pub peak : ℕ
+  pub log : List ℕ
+  pub tape : List ℕ
+
+-- What open answers, a refusal's number beside the session (0 for none), and both slices after the call.
+pub record Opening : Type 0 where
+  pub session : Session
+  pub refusal : ℕ
+  pub log : List ℕ
+  pub tape : List ℕ
+
+-- What forward, back and go-to are given besides their number.
+pub record Given : Type 0 where
+  pub table : List ℕ
+  pub n : ℕ
+  pub session : Session
+  pub log : List ℕ
+  pub tape : List ℕ

@@ -1,0 +1,5 @@
+pub mod Choice
+pub mod Term
+pub mod Table
+pub mod Accepted
+pub mod Facts
