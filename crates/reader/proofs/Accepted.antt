@@ -5,13 +5,14 @@ use Prim.Native.Nat.{ℕ, _*_, _≤_}
 use native.Mathlib.Omega.{arith}
 use lib.ListN.{length, take, drop, length-append}
 use lib.Seq.{take-at}
-use Rattle.term.specs.Term.{Term, size, Closed}
+use Rattle.term.specs.Term.{Term, size}
 use Rattle.term.specs.Table.{tableOf}
 use Rattle.term.specs.Accepted.{Accepted}
 use Rattle.term.proofs.Rows.{rows-length}
 use Rattle.term.proofs.Accepted.{table-closed}
 use Rattle.reader.specs.Exactly.{Means, Accepts}
-use Rattle.reader.proofs.Size.{nodes, few-nodes, size-nodes, nameless-closed}
+use Rattle.reader.proofs.Size.{nodes, few-nodes, size-nodes}
+use Rattle.reader.proofs.Exactly.{nameless-meant, meant-closed}
 
 table-length : (t : Term) → length (tableOf t) ≡ 5 * size t
 unfolding tableOf
@@ -27,13 +28,10 @@ pub means-few : (text : List ℕ) (t : Term) → Means text t → size t ≤ len
 means-few text t m =
     omega (
       arith,
-      size-nodes (m .tree) [] t (m .nameless-is),
+      size-nodes (m .tree) [] t (nameless-meant text t m),
       ap nodes (m .derives .tree-is),
       few-nodes text (m .derives .phrase) (m .derives .spells),
     )
-
-pub means-closed : (text : List ℕ) (t : Term) → Means text t → Closed t
-means-closed text t m = nameless-closed (m .tree) [] t (m .nameless-is)
 
 pub text-accepted : (text table : List ℕ) (n : ℕ) (words : List ℕ) → Accepts text table n words → Accepted words n × (n ≤ length text)
 text-accepted text table n words a =
@@ -42,5 +40,5 @@ text-accepted text table n words a =
     let few : size t ≤ length text = means-few text t (a .means) in
     let long = table-long t rest words (a .words-are) in
     let laid = table-first t rest words (a .words-are) in
-    let accepted = table-closed t (means-closed text t (a .means)) (omega (arith, a .well-spelled .few-bytes)) words long laid in
+    let accepted = table-closed t (meant-closed text t (a .means)) (omega (arith, a .well-spelled .few-bytes)) words long laid in
     (subst⁻¹ (Accepted words) (a .n-is) accepted, omega arith)

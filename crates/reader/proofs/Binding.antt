@@ -1,20 +1,19 @@
 -- A tree has a form without names exactly where it is closed, and that form is a closed term.
-use mathlib.Core.Path.{_≡_, refl, sym, ap, _∙_, subst}
+use mathlib.Core.Path.{_≡_, refl, sym, _∙_, subst}
 use mathlib.Core.Logic.{_↔_}
-use mathlib.Core.Bool.{Bool, true, false, _&&_, cond, false≢true}
+use mathlib.Core.Bool.{Bool, true, false, _&&_, false≢true}
 use mathlib.Core.Option.{Option, none, some}
 use mathlib.Core.List.{List, [], _∷_}
-use Prim.Native.Nat.{ℕ, zero, suc, _≤_, _<_}
+use Prim.Native.Nat.{ℕ, zero, suc, _<_}
 use native.Mathlib.Omega.{arith}
 use lib.ListN.{length}
 use lib.Dec.{eqb}
 use borrow.Author.Tests.{eqb-true, eq-eqb}
-use Rattle.term.specs.Choice.{_>>=_}
 use Rattle.term.specs.Term.{Term, var, lam, app, ClosedUnder}
 use Rattle.reader.specs.Tokens.{Name}
 use Rattle.reader.specs.Grammar.{Tree, variable, binder, apply}
-use Rattle.reader.specs.Binding.{sameName, indexOf, nameless, Among, here, there, ClosedIn}
-use Rattle.reader.proofs.Each.{Each, each-bind}
+use Rattle.reader.specs.Binding.{sameName, indexOf, nameless, Innermost, Form, Among, here, there, ClosedIn}
+use Rattle.reader.proofs.Each.{Each, each-some, each-bind}
 
 both : (s t : Bool) → (s && t) ≡ true → (s ≡ true) × (t ≡ true)
 both true t e = (refl, e)
@@ -29,28 +28,74 @@ same-name (b ∷ x) (c ∷ y) = (
   λ e. rw (eq-eqb b c (cc)) (same-name x y .1 (cc)),
 )
 
--- the index of a name that stands among the binders around it, and of no other
-index-among : (x : Name) (around : List Name) → Each (λ k. Among x around × (k < length around)) (indexOf x around)
+each-innermost : (x : Name) (around : List Name) → Each (Innermost x around) (indexOf x around)
 unfolding indexOf
-index-among x [] = tt
-index-among x (y ∷ around) = by-test (sameName x y) (same-name x y .0) (index-among x around)
+each-innermost x [] = tt
+each-innermost x (y ∷ around) = by-test (sameName x y) refl (each-innermost x around)
   where
-    by-test : (t : Bool) → (t ≡ true → x ≡ y) → Each (λ k. Among x around × (k < length around)) (indexOf x around)
-        → Each (λ k. Among x (y ∷ around) × (k < length (y ∷ around))) (cond t (some 0) (indexOf x around >>= λ k. some (suc k)))
-    by-test true e r = (subst (λ (z : Name). Among x (z ∷ around)) (e refl) here, omega arith)
+    by-test : (t : Bool) → sameName x y ≡ t → Each (Innermost x around) (indexOf x around)
+        → Each (Innermost x (y ∷ around)) (indexOf x (y ∷ around))
+    by-test true e r = rw e (same-name x y .0 e)
     by-test false e r =
-        each-bind (λ k. Among x around × (k < length around)) (λ k. Among x (y ∷ around) × (k < length (y ∷ around))) (indexOf x around) _ r
-        λ k h. (there (h .0), omega arith)
+        rw e
+        (each-bind (Innermost x around) (Innermost x (y ∷ around)) (indexOf x around) (λ k. some (suc k)) r
+        λ k h. (λ same. false≢true (sym e ∙ same-name x y .1 same), h))
+
+not-same : (x y : Name) → (x ≡ y → ⊥) → sameName x y ≡ false
+not-same x y n = by-test (sameName x y) (same-name x y .0)
+  where
+    by-test : (t : Bool) → (t ≡ true → x ≡ y) → t ≡ false
+    by-test true e = absurd (n (e refl))
+    by-test false e = refl
+
+innermost-found : (x : Name) (around : List Name) (k : ℕ) → Innermost x around k → indexOf x around ≡ some k
+unfolding indexOf
+innermost-found x [] k h = absurd h
+innermost-found x (y ∷ around) zero h = rw (same-name x y .1 h)
+innermost-found x (y ∷ around) (suc k) h = rw (not-same x y (h .0), innermost-found x around k (h .1))
+
+pub innermost : (x : Name) (around : List Name) (k : ℕ) → (indexOf x around ≡ some k) ↔ Innermost x around k
+innermost x around k = (each-some (Innermost x around) (each-innermost x around), innermost-found x around k)
+
+-- the form without names, node by node
+each-form : (t : Tree) (around : List Name) → Each (Form t around) (nameless t around)
+unfolding nameless
+each-form (variable x) around = each-bind (Innermost x around) (Form (variable x) around) (indexOf x around) _ (each-innermost x around) λ k h. h
+each-form (binder x t) around =
+    each-bind (Form t (x ∷ around)) (Form (binder x t) around) (nameless t (x ∷ around)) _ (each-form t (x ∷ around)) λ b h. h
+each-form (apply f a) around =
+    each-bind (Form f around) (Form (apply f a) around) (nameless f around) _ (each-form f around)
+    λ g h. each-bind (Form a around) (Form (apply f a) around) (nameless a around) _ (each-form a around) λ b i. (h, i)
+
+form-found : (t : Tree) (around : List Name) (u : Term) → Form t around u → nameless t around ≡ some u
+unfolding nameless
+form-found (variable x) around (var k) h = rw (innermost-found x around k h)
+form-found (variable x) around (lam b) h = absurd h
+form-found (variable x) around (app g b) h = absurd h
+form-found (binder x t) around (var k) h = absurd h
+form-found (binder x t) around (lam b) h = rw (form-found t (x ∷ around) b h)
+form-found (binder x t) around (app g b) h = absurd h
+form-found (apply f a) around (var k) h = absurd h
+form-found (apply f a) around (lam b) h = absurd h
+form-found (apply f a) around (app g b) h = rw (form-found f around g (h .0), form-found a around b (h .1))
+
+pub nameless-exactly : (t : Tree) (around : List Name) (u : Term) → (nameless t around ≡ some u) ↔ Form t around u
+nameless-exactly t around u = (each-some (Form t around) (each-form t around), form-found t around u)
+
+-- a name has an index exactly where it stands among the binders around it
+innermost-among : (x : Name) (around : List Name) (k : ℕ) → Innermost x around k → Among x around × (k < length around)
+innermost-among x [] k h = absurd h
+innermost-among x (y ∷ around) zero h = (subst (λ (z : Name). Among x (z ∷ around)) h here, omega arith)
+innermost-among x (y ∷ around) (suc k) h = let r = innermost-among x around k (h .1) in (there (r .0), omega arith)
 
 among-index : (x : Name) (around : List Name) → Among x around → (k : ℕ) × (indexOf x around ≡ some k)
 unfolding indexOf
 among-index x (_ ∷ around) here = (0, rw (same-name x x .1 refl))
-among-index x (y ∷ around) (there m) = by-test (sameName x y) (among-index x around m)
+among-index x (y ∷ around) (there m) = by-test (sameName x y) refl (among-index x around m)
   where
-    by-test : (t : Bool) → (k : ℕ) × (indexOf x around ≡ some k)
-        → (k : ℕ) × (cond t (some 0) (indexOf x around >>= λ k. some (suc k)) ≡ some k)
-    by-test true r = (0, refl)
-    by-test false r = (suc (r .0), rw (r .1))
+    by-test : (t : Bool) → sameName x y ≡ t → (k : ℕ) × (indexOf x around ≡ some k) → (k : ℕ) × (indexOf x (y ∷ around) ≡ some k)
+    by-test true e r = (0, rw e)
+    by-test false e r = (suc (r .0), rw (e, r .1))
 
 pub closed-named : (t : Tree) (around : List Name) → ClosedIn t around → (u : Term) × (nameless t around ≡ some u)
 unfolding nameless
@@ -67,7 +112,7 @@ ClosedAs t around u = ClosedIn t around × ClosedUnder (length around) u
 each-closed : (t : Tree) (around : List Name) → Each (ClosedAs t around) (nameless t around)
 unfolding nameless ClosedAs
 each-closed (variable x) around =
-    each-bind (λ k. Among x around × (k < length around)) (ClosedAs (variable x) around) (indexOf x around) _ (index-among x around) λ k h. h
+    each-bind (Innermost x around) (ClosedAs (variable x) around) (indexOf x around) _ (each-innermost x around) (innermost-among x around)
 each-closed (binder x t) around =
     each-bind (ClosedAs t (x ∷ around)) (ClosedAs (binder x t) around) (nameless t (x ∷ around)) _ (each-closed t (x ∷ around)) λ b h. h
 each-closed (apply f a) around =
@@ -77,7 +122,7 @@ each-closed (apply f a) around =
 
 pub nameless-closed : (t : Tree) (around : List Name) (u : Term) → nameless t around ≡ some u → ClosedIn t around × ClosedUnder (length around) u
 unfolding ClosedAs
-nameless-closed t around u e = subst (Each (ClosedAs t around)) e (each-closed t around)
+nameless-closed t around u e = each-some (ClosedAs t around) (each-closed t around) e
 
 pub unbound : (t : Tree) (around : List Name) → (nameless t around ≡ none) ↔ (ClosedIn t around → ⊥)
 unbound t around = (none-closed, by-named (nameless t around) refl)

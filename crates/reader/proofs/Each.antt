@@ -1,12 +1,15 @@
 -- What holds of the value of an option, if it has one; and how the choices of the definitions pass it on.
-use mathlib.Core.Path.{_≡_, refl}
-use mathlib.Core.Bool.{Bool, true, false, cond}
+use mathlib.Core.Path.{_≡_, refl, subst}
+use mathlib.Core.Bool.{Bool, true, false}
 use mathlib.Core.Option.{Option, none, some}
 use Rattle.term.specs.Choice.{_>>=_, choose, ifSome}
 
 abbrev pub Each : {A : Type 0} → (A → Type 0) → Option A → Type 0
 Each P none = Unit
 Each P (some a) = P a
+
+pub each-some : {A : Type 0} (P : A → Type 0) {o : Option A} {a : A} → Each P o → o ≡ some a → P a
+each-some P p e = subst (Each P) e p
 
 module _ {A B : Type 0} (P : A → Type 0) (Q : B → Type 0) where
   pub each-bind : (o : Option A) (k : A → Option B) → Each P o → ((a : A) → P a → Each Q (k a)) → Each Q (o >>= k)

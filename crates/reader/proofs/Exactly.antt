@@ -3,24 +3,23 @@ use mathlib.Core.Path.{_≡_, refl, sym, ap, _∙_, subst}
 use mathlib.Core.Logic.{_↔_}
 use mathlib.Core.Bool.{Bool, true, false, _||_, false≢true}
 use mathlib.Core.Option.{Option, none, some}
-use mathlib.Core.List.{List, [], _∷_, _++_}
-use Prim.Native.Nat.{ℕ, suc, _*_, _≤_, _<_}
+use mathlib.Core.List.{List, [], _∷_}
+use Prim.Native.Nat.{ℕ, _*_, _≤_, _<_}
 use native.Mathlib.Omega.{arith}
-use lib.ListN.{length, drop}
+use lib.ListN.{length}
 use lib.Dec.{ltb}
 use borrow.Author.Tests.{ltb-true, ltb-false, le-ltb}
-use Rattle.term.specs.Choice.{_⇒_, first, _>>=_, isNone}
-use Rattle.term.specs.Term.{Term, size}
-use Rattle.term.specs.Table.{tableOf}
+use Rattle.term.specs.Choice.{_>>=_}
+use Rattle.term.specs.Term.{Term, size, Closed}
 use Rattle.reader.specs.Bytes.{Class, letter, digit, blank, sign, foreign, classOf, isForeign}
-use Rattle.reader.specs.Tokens.{Name, Token, mark, name, tokens, startsWithDigit, anyBadName}
+use Rattle.reader.specs.Tokens.{Token, mark, name, tokens, startsWithDigit, anyBadName}
 use Rattle.reader.specs.Grammar.{Phrase, Tree, phraseTree, Derives}
 use Rattle.reader.specs.Parse.{parse}
 use Rattle.reader.specs.Binding.{nameless, ClosedIn}
-use Rattle.reader.specs.Reading.{Read, mostBytes, anyForeign, meant, tooShort, readerNumber, refused, laidOut, answer, readOf}
-use Rattle.reader.specs.Exactly.{NoForeign, GoodNames, Spelled, Means, Accepts, AcceptedExactly, FourExactly, FiveExactly, SixExactly, RefusedUnchanged}
-use Rattle.reader.proofs.Parse.{parse-exactly, parse-none, one-tree}
-use Rattle.reader.proofs.Binding.{nameless-closed, unbound}
+use Rattle.reader.specs.Reading.{Read, mostBytes, anyForeign, meant, tooShort, readerNumber, refused, laidOut, readOf}
+use Rattle.reader.specs.Exactly.{NoForeign, GoodNames, Spelled, Means, Accepts, AcceptedExactly, OneExactly, TwoExactly, ThreeExactly, FourExactly, FiveExactly, SixExactly, RefusedUnchanged}
+use Rattle.reader.proofs.Parse.{parse-derives, parse-none, one-tree}
+use Rattle.reader.proofs.Binding.{nameless-exactly, nameless-closed, unbound}
 
 neither : (s t : Bool) → (s || t) ≡ false → (s ≡ false) × (t ≡ false)
 neither false t e = (refl, e)
@@ -56,7 +55,9 @@ none-bad (name x ∷ ts) = (
 
 -- what the reader finds, in the order of the tests, and what it then answers
 data Finds (text table : List ℕ) : Read → Type 0 where
-  misspelled : (k : ℕ) → 1 ≤ k → k ≤ 3 → (Spelled text → ⊥) → Finds text table (refused k table)
+  too-long : mostBytes < length text → Finds text table (refused 1 table)
+  foreign-byte : length text ≤ mostBytes → (NoForeign text → ⊥) → Finds text table (refused 2 table)
+  bad-name : length text ≤ mostBytes → NoForeign text → (GoodNames (tokens text) → ⊥) → Finds text table (refused 3 table)
   no-tree : Spelled text → ((t : Tree) → Derives (tokens text) t → ⊥) → Finds text table (refused 4 table)
   open-tree : Spelled text → (t : Tree) → Derives (tokens text) t → (ClosedIn t [] → ⊥) → Finds text table (refused 5 table)
   no-room : Spelled text → (t : Term) → Means text t → length table < 5 * size t → Finds text table (refused 6 table)
@@ -71,39 +72,44 @@ module _ (text table : List ℕ) where
         good-names = none-bad (tokens text) .0 ec;
       }
 
-  derived-by : (p : Phrase) → parse (tokens text) ≡ some p → Derives (tokens text) (phraseTree p)
-  derived-by p e = record { phrase = p; spells = parse-exactly (tokens text) p .0 e; tree-is = refl }
-
   meant-by : (p : Phrase) (t : Term) → parse (tokens text) ≡ some p → nameless (phraseTree p) [] ≡ some t → Means text t
   meant-by p t eo em =
-      record { tree = phraseTree p; derives = derived-by p eo; closed = nameless-closed (phraseTree p) [] t em .0; nameless-is = em }
+      record { tree = phraseTree p; derives = parse-derives (tokens text) p eo; closed = nameless-closed (phraseTree p) [] t em .0; form = nameless-exactly (phraseTree p) [] t .0 em }
 
   by-tests : (a b c : Bool) (o : Option Phrase) (m : Option Term) (d : Bool)
       → ltb mostBytes (length text) ≡ a → anyForeign text ≡ b → anyBadName (tokens text) ≡ c
       → parse (tokens text) ≡ o → (o >>= λ p. nameless (phraseTree p) []) ≡ m → tooShort m table ≡ d
-      → Finds text table (answer (first ((a ⇒ 1) ∷ (b ⇒ 2) ∷ (c ⇒ 3) ∷ (isNone o ⇒ 4) ∷ (isNone m ⇒ 5) ∷ (d ⇒ 6) ∷ [])) m table)
+      → Finds text table (readOf text table)
+  unfolding readOf readerNumber meant
   by-tests true b c o m d ea eb ec eo em ed =
-      misspelled 1 (omega arith) (omega arith) (λ s. omega (arith, s .few-bytes, ltb-true mostBytes (length text) ea))
+      rw ea (too-long (ltb-true mostBytes (length text) ea))
   by-tests false true c o m d ea eb ec eo em ed =
-      misspelled 2 (omega arith) (omega arith) (λ s. false≢true (sym (none-foreign text .1 (s .no-foreign)) ∙ eb))
+      rw (ea, eb) (foreign-byte (ltb-false mostBytes (length text) ea) (λ h. false≢true (sym (none-foreign text .1 h) ∙ eb)))
   by-tests false false true o m d ea eb ec eo em ed =
-      misspelled 3 (omega arith) (omega arith) (λ s. false≢true (sym (none-bad (tokens text) .1 (s .good-names)) ∙ ec))
-  by-tests false false false none m d ea eb ec eo em ed = no-tree (spelled-by ea eb ec) (parse-none (tokens text) .0 eo)
+      rw (ea, eb, ec)
+      (bad-name (ltb-false mostBytes (length text) ea) (none-foreign text .0 eb) (λ h. false≢true (sym (none-bad (tokens text) .1 h) ∙ ec)))
+  by-tests false false false none m d ea eb ec eo em ed =
+      rw (ea, eb, ec, eo) (no-tree (spelled-by ea eb ec) (parse-none (tokens text) .0 eo))
   by-tests false false false (some p) none d ea eb ec eo em ed =
-      open-tree (spelled-by ea eb ec) (phraseTree p) (derived-by p eo) (unbound (phraseTree p) [] .0 em)
+      rw (ea, eb, ec, eo, em) (open-tree (spelled-by ea eb ec) (phraseTree p) (parse-derives (tokens text) p eo) (unbound (phraseTree p) [] .0 em))
   by-tests false false false (some p) (some t) true ea eb ec eo em ed =
-      no-room (spelled-by ea eb ec) t (meant-by p t eo em) (ltb-true (length table) (5 * size t) ed)
+      rw (ea, eb, ec, eo, em, ed) (no-room (spelled-by ea eb ec) t (meant-by p t eo em) (ltb-true (length table) (5 * size t) ed))
   by-tests false false false (some p) (some t) false ea eb ec eo em ed =
-      a-term (spelled-by ea eb ec) t (meant-by p t eo em) (ltb-false (length table) (5 * size t) ed)
+      rw (ea, eb, ec, eo, em, ed) (a-term (spelled-by ea eb ec) t (meant-by p t eo em) (ltb-false (length table) (5 * size t) ed))
 
   finds : Finds text table (readOf text table)
-  unfolding readOf readerNumber meant
   finds = by-tests _ _ _ _ _ _ refl refl refl refl refl refl
 
--- a text has one tree and one meaning
-one-meaning : (text : List ℕ) (t u : Term) → Means text t → Means text u → t ≡ u
+-- a text has one tree and one meaning, which is closed
+pub nameless-meant : (text : List ℕ) (t : Term) (m : Means text t) → nameless (m .tree) [] ≡ some t
+nameless-meant text t m = nameless-exactly (m .tree) [] t .1 (m .form)
+
+pub one-meaning : (text : List ℕ) (t u : Term) → Means text t → Means text u → t ≡ u
 one-meaning text t u m l =
-    cc (ap (λ (s : Tree). nameless s []) (one-tree (tokens text) (m .tree) (l .tree) (m .derives) (l .derives)), m .nameless-is, l .nameless-is)
+    cc (ap (λ (s : Tree). nameless s []) (one-tree (tokens text) (m .tree) (l .tree) (m .derives) (l .derives)), nameless-meant text t m, nameless-meant text u l)
+
+pub meant-closed : (text : List ℕ) (t : Term) → Means text t → Closed t
+meant-closed text t m = nameless-closed (m .tree) [] t (nameless-meant text t m) .1
 
 same-refusal : {r s : Read} → r ≡ s → r .refusal ≡ s .refusal
 same-refusal e = ap (λ (a : Read). a .refusal) e
@@ -112,8 +118,37 @@ only-closed : (text : List ℕ) (t : Tree) (u : Term) → Derives (tokens text) 
 only-closed text t u d m = subst (λ (s : Tree). ClosedIn s []) (one-tree (tokens text) (m .tree) t (m .derives) d) (m .closed)
 
 module _ (text table : List ℕ) where
+  one : (r : Read) → Finds text table r → (r .refusal ≡ 1) ↔ (mostBytes < length text)
+  one r (too-long long) = (λ e. long, λ h. refl)
+  one r (foreign-byte few dirt) = (λ e. absurd (omega arith), λ h. absurd (omega arith))
+  one r (bad-name few clean bad) = (λ e. absurd (omega arith), λ h. absurd (omega arith))
+  one r (no-tree s underived) = (λ e. absurd (omega arith), λ h. absurd (omega (arith, s .few-bytes)))
+  one r (open-tree s t d unclosed) = (λ e. absurd (omega arith), λ h. absurd (omega (arith, s .few-bytes)))
+  one r (no-room s t m short) = (λ e. absurd (omega arith), λ h. absurd (omega (arith, s .few-bytes)))
+  one r (a-term s t m fits) = (λ e. absurd (omega arith), λ h. absurd (omega (arith, s .few-bytes)))
+
+  two : (r : Read) → Finds text table r → (r .refusal ≡ 2) ↔ ((length text ≤ mostBytes) × (NoForeign text → ⊥))
+  two r (too-long long) = (λ e. absurd (omega arith), λ h. absurd (omega (arith, h .0)))
+  two r (foreign-byte few dirt) = (λ e. (few, dirt), λ h. refl)
+  two r (bad-name few clean bad) = (λ e. absurd (omega arith), λ h. absurd (h .1 clean))
+  two r (no-tree s underived) = (λ e. absurd (omega arith), λ h. absurd (h .1 (s .no-foreign)))
+  two r (open-tree s t d unclosed) = (λ e. absurd (omega arith), λ h. absurd (h .1 (s .no-foreign)))
+  two r (no-room s t m short) = (λ e. absurd (omega arith), λ h. absurd (h .1 (s .no-foreign)))
+  two r (a-term s t m fits) = (λ e. absurd (omega arith), λ h. absurd (h .1 (s .no-foreign)))
+
+  three : (r : Read) → Finds text table r → (r .refusal ≡ 3) ↔ ((length text ≤ mostBytes) × NoForeign text × (GoodNames (tokens text) → ⊥))
+  three r (too-long long) = (λ e. absurd (omega arith), λ h. absurd (omega (arith, h .0)))
+  three r (foreign-byte few dirt) = (λ e. absurd (omega arith), λ h. absurd (dirt (h .1)))
+  three r (bad-name few clean bad) = (λ e. (few, clean, bad), λ h. refl)
+  three r (no-tree s underived) = (λ e. absurd (omega arith), λ h. absurd (h .2 (s .good-names)))
+  three r (open-tree s t d unclosed) = (λ e. absurd (omega arith), λ h. absurd (h .2 (s .good-names)))
+  three r (no-room s t m short) = (λ e. absurd (omega arith), λ h. absurd (h .2 (s .good-names)))
+  three r (a-term s t m fits) = (λ e. absurd (omega arith), λ h. absurd (h .2 (s .good-names)))
+
   four : (r : Read) → Finds text table r → (r .refusal ≡ 4) ↔ (Spelled text × ((t : Tree) → Derives (tokens text) t → ⊥))
-  four r (misspelled k low high wrong) = (λ e. absurd (omega arith), λ h. absurd (wrong (h .0)))
+  four r (too-long long) = (λ e. absurd (omega arith), λ h. absurd (omega (arith, h .0 .few-bytes)))
+  four r (foreign-byte few dirt) = (λ e. absurd (omega arith), λ h. absurd (dirt (h .0 .no-foreign)))
+  four r (bad-name few clean bad) = (λ e. absurd (omega arith), λ h. absurd (bad (h .0 .good-names)))
   four r (no-tree s underived) = (λ e. (s, underived), λ h. refl)
   four r (open-tree s t d unclosed) = (λ e. absurd (omega arith), λ h. absurd (h .1 t d))
   four r (no-room s t m short) = (λ e. absurd (omega arith), λ h. absurd (h .1 (m .tree) (m .derives)))
@@ -121,14 +156,18 @@ module _ (text table : List ℕ) where
 
   five : (r : Read) → Finds text table r
       → (r .refusal ≡ 5) ↔ (Spelled text × ((t : Tree) × Derives (tokens text) t × (ClosedIn t [] → ⊥)))
-  five r (misspelled k low high wrong) = (λ e. absurd (omega arith), λ h. absurd (wrong (h .0)))
+  five r (too-long long) = (λ e. absurd (omega arith), λ h. absurd (omega (arith, h .0 .few-bytes)))
+  five r (foreign-byte few dirt) = (λ e. absurd (omega arith), λ h. absurd (dirt (h .0 .no-foreign)))
+  five r (bad-name few clean bad) = (λ e. absurd (omega arith), λ h. absurd (bad (h .0 .good-names)))
   five r (no-tree s underived) = (λ e. absurd (omega arith), λ h. absurd (underived (h .1 .0) (h .1 .1)))
   five r (open-tree s t d unclosed) = (λ e. (s, (t, d, unclosed)), λ h. refl)
   five r (no-room s t m short) = (λ e. absurd (omega arith), λ h. absurd (h .1 .2 (only-closed text (h .1 .0) t (h .1 .1) m)))
   five r (a-term s t m fits) = (λ e. absurd (omega arith), λ h. absurd (h .1 .2 (only-closed text (h .1 .0) t (h .1 .1) m)))
 
   six : (r : Read) → Finds text table r → (r .refusal ≡ 6) ↔ (Spelled text × ((t : Term) × Means text t × (length table < 5 * size t)))
-  six r (misspelled k low high wrong) = (λ e. absurd (omega arith), λ h. absurd (wrong (h .0)))
+  six r (too-long long) = (λ e. absurd (omega arith), λ h. absurd (omega (arith, h .0 .few-bytes)))
+  six r (foreign-byte few dirt) = (λ e. absurd (omega arith), λ h. absurd (dirt (h .0 .no-foreign)))
+  six r (bad-name few clean bad) = (λ e. absurd (omega arith), λ h. absurd (bad (h .0 .good-names)))
   six r (no-tree s underived) = (λ e. absurd (omega arith), λ h. absurd (underived (h .1 .1 .tree) (h .1 .1 .derives)))
   six r (open-tree s t d unclosed) = (λ e. absurd (omega arith), λ h. absurd (unclosed (only-closed text t (h .1 .0) d (h .1 .1))))
   six r (no-room s t m short) = (λ e. (s, (t, m, short)), λ h. refl)
@@ -136,14 +175,18 @@ module _ (text table : List ℕ) where
       (λ e. absurd (omega arith), λ h. absurd (omega (arith, h .1 .2, ap size (one-meaning text t (h .1 .0) m (h .1 .1)))))
 
   unchanged : (r : Read) → Finds text table r → (r .refusal ≡ 0 → ⊥) → (r .n ≡ 0) × (r .table ≡ table)
-  unchanged r (misspelled k low high wrong) h = (refl, refl)
+  unchanged r (too-long long) h = (refl, refl)
+  unchanged r (foreign-byte few dirt) h = (refl, refl)
+  unchanged r (bad-name few clean bad) h = (refl, refl)
   unchanged r (no-tree s underived) h = (refl, refl)
   unchanged r (open-tree s t d unclosed) h = (refl, refl)
   unchanged r (no-room s t m short) h = (refl, refl)
   unchanged r (a-term s t m fits) h = absurd (h refl)
 
   accepts : (r : Read) (n : ℕ) (words : List ℕ) → Finds text table r → (r ≡ record { n = n; refusal = 0; table = words }) ↔ Accepts text table n words
-  accepts r n words (misspelled k low high wrong) = (λ e. absurd (omega (arith, same-refusal e)), λ a. absurd (wrong (a .well-spelled)))
+  accepts r n words (too-long long) = (λ e. absurd (omega (arith, same-refusal e)), λ a. absurd (omega (arith, a .well-spelled .few-bytes)))
+  accepts r n words (foreign-byte few dirt) = (λ e. absurd (omega (arith, same-refusal e)), λ a. absurd (dirt (a .well-spelled .no-foreign)))
+  accepts r n words (bad-name few clean bad) = (λ e. absurd (omega (arith, same-refusal e)), λ a. absurd (bad (a .well-spelled .good-names)))
   accepts r n words (no-tree s underived) = (λ e. absurd (omega (arith, same-refusal e)), λ a. absurd (underived (a .means .tree) (a .means .derives)))
   accepts r n words (open-tree s t d unclosed) =
       (λ e. absurd (omega (arith, same-refusal e)), λ a. absurd (unclosed (only-closed text t (a .term) d (a .means))))
@@ -164,6 +207,15 @@ module _ (text table : List ℕ) where
         },
     λ a. rw (a .words-are, a .n-is, one-meaning text (a .term) t (a .means) m),
   )
+
+pub one-exactly : OneExactly
+one-exactly text table = one text table (readOf text table) (finds text table)
+
+pub two-exactly : TwoExactly
+two-exactly text table = two text table (readOf text table) (finds text table)
+
+pub three-exactly : ThreeExactly
+three-exactly text table = three text table (readOf text table) (finds text table)
 
 pub four-exactly : FourExactly
 four-exactly text table = four text table (readOf text table) (finds text table)

@@ -1,19 +1,18 @@
 -- The reading of tokens finds the one phrase that they spell, and finds none exactly where no tree is derived.
-use mathlib.Core.Path.{_≡_, refl, sym, ap, _∙_, subst}
+use mathlib.Core.Path.{_≡_, refl, sym, _∙_}
 use mathlib.Core.Logic.{_↔_}
-use mathlib.Core.Bool.{Bool, true, false, cond}
+use mathlib.Core.Bool.{true, false, cond}
 use mathlib.Core.Option.{Option, none, some}
 use mathlib.Core.List.{List, [], _∷_, _++_, append-nil, append-assoc}
-use Prim.Native.Nat.{ℕ, zero, suc, _+_, _*_, _≤_, _<_}
+use Prim.Native.Nat.{ℕ, zero, suc, _+_, _*_, _≤_}
 use native.Mathlib.Nat.{le-refl}
 use native.Mathlib.Omega.{arith}
 use lib.ListN.{length, length-append}
-use Rattle.term.specs.Choice.{_>>=_, choose, ifSome}
-use Rattle.reader.specs.Bytes.{lambda, dot, opening, closing}
-use Rattle.reader.specs.Tokens.{Name, Token, mark, name}
+use Rattle.reader.specs.Bytes.{lambda, closing}
+use Rattle.reader.specs.Tokens.{Token, mark}
 use Rattle.reader.specs.Grammar.{Phrase, abstraction, atoms, Atoms, no-more, _and_, Atom, named, bracketed, phraseTokens, atomsTokens, atomTokens, Tree, phraseTree, Derives}
-use Rattle.reader.specs.Parse.{Parsed, parsed, afterMark, nameFirst, startsAtom, phraseAt, atomsAt, atomAt, isEmpty, parse}
-use Rattle.reader.proofs.Each.{Each, each-bind}
+use Rattle.reader.specs.Parse.{parsed, afterMark, startsAtom, phraseAt, atomsAt, atomAt, isEmpty, parse}
+use Rattle.reader.proofs.Each.{Each, each-some, each-bind}
 use Rattle.reader.proofs.Spelt.{Spelt, phrase-spelt, atom-some}
 
 -- the first token of an atom: no `\`, and one that starts an atom
@@ -76,7 +75,10 @@ phrase-parsed p =
     rw e
 
 pub parse-exactly : (ts : List Token) (p : Phrase) → (parse ts ≡ some p) ↔ (phraseTokens p ≡ ts)
-parse-exactly ts p = (λ e. subst (Each (λ q. phraseTokens q ≡ ts)) e (whole-spelt ts), λ e. rw e at (phrase-parsed p))
+parse-exactly ts p = (each-some (λ q. phraseTokens q ≡ ts) (whole-spelt ts), λ e. rw e at (phrase-parsed p))
+
+pub parse-derives : (ts : List Token) (p : Phrase) → parse ts ≡ some p → Derives ts (phraseTree p)
+parse-derives ts p e = record { phrase = p; spells = parse-exactly ts p .0 e; tree-is = refl }
 
 pub one-phrase : (p q : Phrase) → phraseTokens p ≡ phraseTokens q → p ≡ q
 one-phrase p q e = cc (parse-exactly (phraseTokens q) p .1 e, phrase-parsed q)
@@ -95,5 +97,4 @@ parse-none ts = (none-derived, by-found (parse ts) refl)
 
     by-found : (o : Option Phrase) → parse ts ≡ o → ((t : Tree) → Derives ts t → ⊥) → parse ts ≡ none
     by-found none e no-tree = e
-    by-found (some p) e no-tree =
-        absurd (no-tree (phraseTree p) (record { phrase = p; spells = parse-exactly ts p .0 e; tree-is = refl }))
+    by-found (some p) e no-tree = absurd (no-tree (phraseTree p) (parse-derives ts p e))

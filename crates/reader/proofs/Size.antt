@@ -1,19 +1,17 @@
--- A text of b bytes that spells a phrase has at most b nodes; and what a tree means has as many nodes as the tree, and is closed.
-use mathlib.Core.Path.{_≡_, refl, ap, _∙_, subst}
-use mathlib.Core.Bool.{Bool, true, false, cond}
+-- A text of b bytes that spells a phrase has at most b nodes; and what a tree means has as many nodes as the tree.
+use mathlib.Core.Path.{_≡_, refl, ap, _∙_}
 use mathlib.Core.Option.{Option, some}
 use mathlib.Core.List.{List, [], _∷_, _++_, append-nil, append-assoc}
 use Prim.Native.Nat.{ℕ, suc, _+_, _≤_, _<_}
 use native.Mathlib.Omega.{arith}
 use lib.ListN.{length, length-append}
-use Rattle.term.specs.Choice.{_>>=_}
-use Rattle.term.specs.Term.{Term, var, lam, app, size, ClosedUnder}
+use Rattle.term.specs.Term.{Term, var, lam, app, size}
 use Rattle.reader.specs.Bytes.{closing}
 use Rattle.reader.specs.Tokens.{Name, Token, mark, name, Piece, gap, token, pieces, tokensOf, tokens, spelled, NotName, ArePieces}
 use Rattle.reader.specs.Grammar.{Phrase, abstraction, atoms, Atoms, no-more, _and_, Atom, named, bracketed, phraseTokens, atomsTokens, atomTokens, Tree, variable, binder, apply, phraseTree, applied, atomTree}
-use Rattle.reader.specs.Binding.{indexOf, nameless, sameName}
+use Rattle.reader.specs.Binding.{nameless, Form}
 use Rattle.reader.proofs.Tokens.{pieces-spell, pieces-are}
-use Rattle.reader.proofs.Each.{Each, each-bind}
+use Rattle.reader.proofs.Binding.{nameless-exactly}
 
 abbrev pub nodes : Tree → ℕ
 nodes (variable x) = 1
@@ -106,38 +104,17 @@ few-nodes text p e =
       ap length (pieces-spell text),
     )
 
-each-cond : {A : Type 0} (P : A → Type 0) (c : Bool) (o q : Option A) → Each P o → Each P q → Each P (cond c o q)
-each-cond P true o q h k = h
-each-cond P false o q h k = k
-
--- A name's index is below the number of binders around it.
-index-bound : (x : Name) (around : List Name) → Each (λ k. k < length around) (indexOf x around)
-unfolding indexOf
-index-bound x [] = tt
-index-bound x (y ∷ around) =
-    let Bound : ℕ → Type 0 = λ k. k < suc (length around) in
-    each-cond Bound (sameName x y) (some 0) (indexOf x around >>= λ k. some (suc k)) (omega arith)
-    (each-bind (λ k. k < length around) Bound (indexOf x around) (λ k. some (suc k)) (index-bound x around) (λ k h. omega arith))
-
--- A tree without its names has as many nodes, and is closed under the binders around it.
-abbrev Fits : Tree → List Name → Term → Type 0
-Fits t around u = (size u ≡ nodes t) × ClosedUnder (length around) u
-
-nameless-fits : (t : Tree) (around : List Name) → Each (Fits t around) (nameless t around)
-unfolding nameless
-nameless-fits (variable x) around =
-    each-bind (λ k. k < length around) (Fits (variable x) around) (indexOf x around) (λ k. some (var k)) (index-bound x around) λ k h.
-    (refl, h)
-nameless-fits (binder x t) around =
-    each-bind (Fits t (x ∷ around)) (Fits (binder x t) around) (nameless t (x ∷ around)) (λ b. some (lam b)) (nameless-fits t (x ∷ around)) λ b h.
-    (ap suc (h .0), h .1)
-nameless-fits (apply f a) around =
-    each-bind (Fits f around) (Fits (apply f a) around) (nameless f around) (λ g. nameless a around >>= λ b. some (app g b)) (nameless-fits f around) λ g h.
-    each-bind (Fits a around) (Fits (apply f a) around) (nameless a around) (λ b. some (app g b)) (nameless-fits a around) λ b k.
-    (omega arith, (h .1, k .1))
+-- A tree without its names has as many nodes.
+form-nodes : (t : Tree) (around : List Name) (u : Term) → Form t around u → size u ≡ nodes t
+form-nodes (variable x) around (var k) h = refl
+form-nodes (variable x) around (lam b) h = absurd h
+form-nodes (variable x) around (app g b) h = absurd h
+form-nodes (binder x t) around (var k) h = absurd h
+form-nodes (binder x t) around (lam b) h = ap suc (form-nodes t (x ∷ around) b h)
+form-nodes (binder x t) around (app g b) h = absurd h
+form-nodes (apply f a) around (var k) h = absurd h
+form-nodes (apply f a) around (lam b) h = absurd h
+form-nodes (apply f a) around (app g b) h = omega (arith, form-nodes f around g (h .0), form-nodes a around b (h .1))
 
 pub size-nodes : (t : Tree) (around : List Name) (u : Term) → nameless t around ≡ some u → size u ≡ nodes t
-size-nodes t around u e = subst (Each (Fits t around)) e (nameless-fits t around) .0
-
-pub nameless-closed : (t : Tree) (around : List Name) (u : Term) → nameless t around ≡ some u → ClosedUnder (length around) u
-nameless-closed t around u e = subst (Each (Fits t around)) e (nameless-fits t around) .1
+size-nodes t around u e = form-nodes t around u (nameless-exactly t around u .0 e)

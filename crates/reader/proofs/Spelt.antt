@@ -1,19 +1,18 @@
 -- Reading a phrase, atoms or an atom gives back what was read and what is left: together they spell the tokens.
-use mathlib.Core.Path.{_≡_, refl, sym, ap, _∙_, subst}
+use mathlib.Core.Path.{_≡_, refl, ap}
 use mathlib.Core.Bool.{Bool, true, false, cond}
-use mathlib.Core.Option.{Option, none, some}
+use mathlib.Core.Option.{none, some}
 use mathlib.Core.List.{List, [], _∷_, _++_, append-assoc}
-use Prim.Native.Nat.{ℕ, zero, suc, _+_, _*_, _≤_, _<_}
+use Prim.Native.Nat.{ℕ, zero, suc, _≤_, _<_}
 use native.Mathlib.Omega.{arith}
 use lib.ListN.{length, length-append}
 use lib.Dec.{eqb}
 use borrow.Author.Tests.{eqb-true}
-use Rattle.term.specs.Choice.{_>>=_, choose, ifSome}
 use Rattle.reader.specs.Bytes.{lambda, dot, opening, closing}
 use Rattle.reader.specs.Tokens.{Name, Token, mark, name}
-use Rattle.reader.specs.Grammar.{Phrase, abstraction, atoms, Atoms, no-more, _and_, Atom, named, bracketed, phraseTokens, atomsTokens, atomTokens}
-use Rattle.reader.specs.Parse.{Parsed, parsed, afterMark, nameFirst, startsAtom, phraseAt, atomsAt, atomAt}
-use Rattle.reader.proofs.Each.{Each, each-bind, each-if, each-choose}
+use Rattle.reader.specs.Grammar.{Phrase, Atoms, atoms, _and_, Atom, named, bracketed, phraseTokens, atomsTokens, atomTokens}
+use Rattle.reader.specs.Parse.{Parsed, afterMark, nameFirst, startsAtom, phraseAt, atomsAt, atomAt}
+use Rattle.reader.proofs.Each.{Each, each-some, each-bind, each-if, each-choose}
 
 -- p was read of ts: its tokens and those that are left
 abbrev pub Spelt : {A : Type 0} → (A → List Token) → List Token → Parsed A → Type 0
@@ -71,7 +70,16 @@ mutual
       (each-bind (λ us. mark opening ∷ us ≡ ts) here (afterMark opening ts) _ (after-spelt opening ts)
       λ us eu. each-bind (Spelt phraseTokens us) here (phraseAt f us) _ (phrase-spelt f us)
       λ p ep. each-bind (λ vs. mark closing ∷ vs ≡ p .left) here (afterMark closing (p .left)) _ (after-spelt closing (p .left))
-      λ vs ev. rw (append-assoc, ev, ep) eu)
+      λ vs ev. cc (append-assoc (phraseTokens (p .value)) (mark closing ∷ []) vs))
+
+pub phrase-sound : (f : ℕ) (ts : List Token) (p : Parsed Phrase) → phraseAt f ts ≡ some p → phraseTokens (p .value) ++ p .left ≡ ts
+phrase-sound f ts p e = each-some (Spelt phraseTokens ts) (phrase-spelt f ts) e
+
+pub atoms-sound : (f : ℕ) (ts : List Token) (p : Parsed Atoms) → atomsAt f ts ≡ some p → atomsTokens (p .value) ++ p .left ≡ ts
+atoms-sound f ts p e = each-some (Spelt atomsTokens ts) (atoms-spelt f ts) e
+
+pub atom-sound : (f : ℕ) (ts : List Token) (p : Parsed Atom) → atomAt f ts ≡ some p → atomTokens (p .value) ++ p .left ≡ ts
+atom-sound f ts p e = each-some (Spelt atomTokens ts) (atom-spelt f ts) e
 
 -- an atom has a token, so less is left after it
 pub atom-some : (a : Atom) → 1 ≤ length (atomTokens a)

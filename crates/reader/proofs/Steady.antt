@@ -1,17 +1,15 @@
 -- What the reading of tokens answers does not depend on how deep it may go, once that suffices.
-use mathlib.Core.Path.{_≡_, refl, sym, ap, _∙_}
-use mathlib.Core.Option.{Option, none, some}
-use mathlib.Core.List.{List, [], _∷_, _++_}
-use Prim.Native.Nat.{ℕ, zero, suc, _+_, _*_, _≤_, _<_}
+use mathlib.Core.Path.{_≡_, refl, ap}
+use mathlib.Core.List.{List, _∷_}
+use Prim.Native.Nat.{ℕ, zero, suc, _+_, _*_, _≤_}
 use native.Mathlib.Omega.{arith}
 use lib.ListN.{length}
-use Rattle.term.specs.Choice.{_>>=_, choose, ifSome}
-use Rattle.reader.specs.Bytes.{lambda, dot, opening, closing}
-use Rattle.reader.specs.Tokens.{Name, Token, mark, name}
-use Rattle.reader.specs.Grammar.{Phrase, Atoms, Atom, phraseTokens, atomsTokens, atomTokens}
-use Rattle.reader.specs.Parse.{Parsed, parsed, afterMark, nameFirst, startsAtom, phraseAt, atomsAt, atomAt}
-use Rattle.reader.proofs.Each.{Each, bind-same, bind-steady, bind-ap, if-same, choose-same}
-use Rattle.reader.proofs.Spelt.{Spelt, nameTokens, after-spelt, name-spelt, atom-spelt, atom-shorter, phrase-spelt}
+use Rattle.reader.specs.Bytes.{lambda, dot, opening}
+use Rattle.reader.specs.Tokens.{Token, mark}
+use Rattle.reader.specs.Grammar.{atomTokens}
+use Rattle.reader.specs.Parse.{afterMark, nameFirst, startsAtom, phraseAt, atomsAt, atomAt}
+use Rattle.reader.proofs.Each.{bind-same, bind-steady, bind-ap, if-same, choose-same}
+use Rattle.reader.proofs.Spelt.{Spelt, nameTokens, after-spelt, name-spelt, atom-spelt, atom-shorter}
 
 mutual
   unfolding phraseAt atomsAt atomAt

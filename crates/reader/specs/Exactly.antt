@@ -11,7 +11,7 @@ use Rattle.term.specs.Table.{tableOf}
 use Rattle.reader.specs.Bytes.{Class, foreign, classOf}
 use Rattle.reader.specs.Tokens.{Name, Token, mark, name, tokens, startsWithDigit}
 use Rattle.reader.specs.Grammar.{Tree, Derives}
-use Rattle.reader.specs.Binding.{nameless, ClosedIn}
+use Rattle.reader.specs.Binding.{Form, ClosedIn}
 use Rattle.reader.specs.Reading.{Read, mostBytes, readOf}
 
 -- number 2 does not apply: no byte is foreign
@@ -36,7 +36,7 @@ pub record Means (text : List ℕ) (t : Term) : Type 0 where
   pub tree : Tree
   pub derives : Derives (tokens text) tree
   pub closed : ClosedIn tree []
-  pub nameless-is : nameless tree [] ≡ some t
+  pub form : Form tree [] t
 
 -- n and these words
 pub record Accepts (text table : List ℕ) (n : ℕ) (words : List ℕ) : Type 0 where
@@ -51,6 +51,17 @@ abbrev pub AcceptedExactly : Type 0
 AcceptedExactly =
     (text table : List ℕ) (n : ℕ) (words : List ℕ)
     → (readOf text table ≡ record { n = n; refusal = 0; table = words }) ↔ Accepts text table n words
+
+-- numbers 1, 2 and 3
+abbrev pub OneExactly : Type 0
+OneExactly = (text table : List ℕ) → (readOf text table .refusal ≡ 1) ↔ (mostBytes < length text)
+
+abbrev pub TwoExactly : Type 0
+TwoExactly = (text table : List ℕ) → (readOf text table .refusal ≡ 2) ↔ ((length text ≤ mostBytes) × (NoForeign text → ⊥))
+
+abbrev pub ThreeExactly : Type 0
+ThreeExactly =
+    (text table : List ℕ) → (readOf text table .refusal ≡ 3) ↔ ((length text ≤ mostBytes) × NoForeign text × (GoodNames (tokens text) → ⊥))
 
 -- number 4: nothing is derived
 abbrev pub FourExactly : Type 0

@@ -1,7 +1,6 @@
 -- The third demand of document 01, as one statement over lists of calls. The theorem is `third-demand` (proofs/Third.antt).
 use mathlib.Core.Path.{_≡_}
-use mathlib.Core.Bool.{Bool, true, false}
-use mathlib.Core.Option.{Option, none, some}
+use mathlib.Core.Option.{Option, some}
 use mathlib.Core.List.{List, [], _∷_}
 use Prim.Native.Nat.{ℕ, zero, suc, _+_, _-_, _*_, _≤_, _<_, min}
 use lib.ListN.{length, take}
@@ -9,8 +8,8 @@ use lib.Dec.{leb}
 use Rattle.term.specs.Choice.{ifSome, choose}
 use Rattle.term.specs.Table.{Table, tableIn}
 use Rattle.term.specs.Accepted.{Accepted}
-use Rattle.machine.specs.Machine.{State, after}
-use Rattle.session.specs.Session.{Session, Stop, jam, logFull, tapeFull, Outcome, stopped, refused, Answer, Opening, Given}
+use Rattle.machine.specs.Machine.{State, start, afterFrom}
+use Rattle.session.specs.Session.{Session, Stop, jam, logFull, tapeFull, stopped, refused, Answer, Opening, Given}
 use Rattle.session.specs.Stops.{moment, Room, room, stopAhead}
 use Rattle.session.specs.Calls.{longest, sessionAt, logSlice, tapeSlice, openOf, forwardOf, backOf, goToOf}
 
@@ -57,33 +56,6 @@ abbrev pub standingAfter : ℕ → Standing → Call → Standing
 standingAfter n st (own m c u) = leftBy (answerTo m (givenTo u n st) c)
 standingAfter n st (other m c g) = st
 
--- "The steps that the stops allow from p are counted on the plain machine alone: the tests are put to its state after p steps, .. and again after each step,
--- with the position one higher and the count one lower." Where the machine makes no p steps there is no state to go on from.
-abbrev pub stopAfter : Table → Room → ℕ → ℕ → Option Stop
-stopAfter T r count p = ifSome (after T p) (λ s. stopAhead T r count (moment s p)) (λ _. some jam)
-
-unfoldable pub allowed : Table → Room → ℕ → ℕ → ℕ
-allowed T r zero p = 0
-allowed T r (suc count) p = ifSome (stopAfter T r (suc count) p) (λ x. 0) (λ _. suc (allowed T r count (suc p)))
-
--- Where a call of the list's own takes p: a call back by m takes off min m p, and go-to is the one or the other.
-abbrev pub positionBy : Table → Room → Move → ℕ → ℕ → ℕ
-positionBy T r forward c p = p + allowed T r c p
-positionBy T r back c p = p - min c p
-positionBy T r go-to q p = choose (leb p q) (λ _. p + allowed T r (q - p) p) (λ _. p - min (p - q) p)
-
-abbrev pub positionAfter : Table → Room → ℕ → Call → ℕ
-positionAfter T r p (own m c u) = positionBy T r m c p
-positionAfter T r p (other m c g) = p
-
--- The session and every word of both slices are those of the plain machine after p steps.
-pub record AsPlain (T : Table) (r : Room) (p : ℕ) (st : Standing) : Type 0 where
-  pub state : State
-  pub after-is : after T p ≡ some state
-  pub session-is : st .session ≡ sessionAt (moment state p)
-  pub log-is : st .log ≡ logSlice r (moment state p)
-  pub tape-is : st .tape ≡ tapeSlice r (moment state p)
-
 -- a call that goes back from p
 abbrev pub GoesBack : Move → ℕ → ℕ → Type 0
 GoesBack forward c p = ⊥
@@ -107,18 +79,47 @@ pub record RefusedCall (g : Given) (a : Answer) : Type 0 where
   pub no-steps : a .steps ≡ 0
   pub no-peak : a .peak ≡ 0
 
-abbrev pub AsDemanded : Table → Room → ℕ → ℕ → Standing → Call → Type 0
-AsDemanded T r n p st (own m c u) = OwnCall p (positionBy T r m c p) m c (answerTo m (givenTo u n st) c)
-AsDemanded T r n p st (other m c g) = RefusedCall g (answerTo m g c)
+-- The plain machine alone, on the table T with slices of the lengths in r: from a state s₀ at position 0, which is `start` below.
+module _ (T : Table) (s₀ : State) (r : Room) where
+  -- "The steps that the stops allow from p are counted on the plain machine alone: the tests are put to its state after p steps, .. and again after each step,
+  -- with the position one higher and the count one lower." Where the machine makes no p steps there is no state to go on from.
+  abbrev pub stopAfter : ℕ → ℕ → Option Stop
+  stopAfter count p = ifSome (afterFrom T s₀ p) (λ s. stopAhead T r count (moment s p)) (λ _. some jam)
 
--- Before each call of the list and after the last, what stands is the plain machine's after p steps, p being counted as above.
-unfoldable pub Demanded : Table → Room → ℕ → List Call → ℕ → Standing → Type 0
-Demanded T r n [] p st = AsPlain T r p st
-Demanded T r n (c ∷ cs) p st = AsPlain T r p st × AsDemanded T r n p st c × Demanded T r n cs (positionAfter T r p c) (standingAfter n st c)
+  unfoldable pub allowed : ℕ → ℕ → ℕ
+  allowed zero p = 0
+  allowed (suc count) p = ifSome (stopAfter (suc count) p) (λ x. 0) (λ _. suc (allowed count (suc p)))
+
+  -- Where a call of the list's own takes p: a call back by m takes off min m p, and go-to is the one or the other.
+  abbrev pub positionBy : Move → ℕ → ℕ → ℕ
+  positionBy forward c p = p + allowed c p
+  positionBy back c p = p - min c p
+  positionBy go-to q p = choose (leb p q) (λ _. p + allowed (q - p) p) (λ _. p - min (p - q) p)
+
+  abbrev pub positionAfter : ℕ → Call → ℕ
+  positionAfter p (own m c u) = positionBy m c p
+  positionAfter p (other m c g) = p
+
+  -- The session and every word of both slices are those of the plain machine after p steps.
+  pub record AsPlain (p : ℕ) (st : Standing) : Type 0 where
+    pub state : State
+    pub after-is : afterFrom T s₀ p ≡ some state
+    pub session-is : st .session ≡ sessionAt (moment state p)
+    pub log-is : st .log ≡ logSlice r (moment state p)
+    pub tape-is : st .tape ≡ tapeSlice r (moment state p)
+
+  abbrev pub AsDemanded : ℕ → ℕ → Standing → Call → Type 0
+  AsDemanded n p st (own m c u) = OwnCall p (positionBy m c p) m c (answerTo m (givenTo u n st) c)
+  AsDemanded n p st (other m c g) = RefusedCall g (answerTo m g c)
+
+  -- Before each call of the list and after the last, what stands is the plain machine's after p steps, p being counted as above.
+  unfoldable pub Demanded : ℕ → List Call → ℕ → Standing → Type 0
+  Demanded n [] p st = AsPlain p st
+  Demanded n (c ∷ cs) p st = AsPlain p st × AsDemanded n p st c × Demanded n cs (positionAfter p c) (standingAfter n st c)
 
 -- For every accepted table, every two slices of a permitted length, whatever they held before open, and every list of permitted calls.
 abbrev pub ThirdDemand : Type 0
 ThirdDemand =
     (w : List ℕ) (n : ℕ) (ls ts : List ℕ) → Accepted w n → length ls ≤ longest → length ts ≤ longest
     → (openOf w n ls ts .refusal ≡ 0)
-    × ((cs : List Call) → AllPermitted w n cs → Demanded (tableIn w n) (room ls ts) n cs 0 (leftByOpen (openOf w n ls ts)))
+    × ((cs : List Call) → AllPermitted w n cs → Demanded (tableIn w n) start (room ls ts) n cs 0 (leftByOpen (openOf w n ls ts)))
