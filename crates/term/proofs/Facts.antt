@@ -10,10 +10,11 @@ use lib.ListN.{length, getD}
 use lib.Dec.{eqb}
 use borrow.Author.Tests.{eq-eqb, ne-eqb}
 use Rattle.term.specs.Term.{Term, var, lam, app, size, ClosedUnder}
-use Rattle.term.specs.Table.{Table, tableIn, arity, Kind, variable, abstraction, application, nothing, kindOf, kindAt, Place, bodyOf, functionOf, argumentOf, nowhere, placeUnder, placeAt}
+use Rattle.term.specs.Table.{Table, tableIn, Kind, variable, abstraction, application, nothing, kindOf, kindAt, bodyOf, functionOf, argumentOf, nowhere, placeUnder, placeAt}
 use Rattle.term.specs.Accepted.{Accepted}
 use Rattle.term.specs.Facts.{IsNode, Stands, Below, as-body, under-body, under-function, under-argument, Bound, Facts}
-use Rattle.term.proofs.Rows.{Row, Holds, size-positive, table-stands}
+use Rattle.term.specs.Walk.{Row}
+use Rattle.term.proofs.Rows.{Holds, root-parent, root-level, size-positive, table-stands}
 use Rattle.term.proofs.Table.{kind-beyond, kind-before}
 use Rattle.term.proofs.Accepted.{term-size}
 
@@ -48,26 +49,15 @@ module _ (T : Table) where
   place-argument i p e k l r =
       place-of i p 3 e k ∙ ap₂ (λ b c. cond b (functionOf p) (cond c (argumentOf p) nowhere)) (ne-eqb (T .left p) i l) (eq-eqb (T .right p) i r)
 
-  -- the root of a part
-  root-parent : (t : Term) (bs : List ℕ) (i p v : ℕ) → Holds T t bs i p v → T .parent i ≡ p
-  root-parent (var x) bs i p v h = h .parent-is
-  root-parent (lam b) bs i p v h = h .0 .parent-is
-  root-parent (app f a) bs i p v h = h .0 .parent-is
-
-  root-level : (t : Term) (bs : List ℕ) (i p v : ℕ) → Holds T t bs i p v → T .level i ≡ v
-  root-level (var x) bs i p v h = h .level-is
-  root-level (lam b) bs i p v h = h .0 .level-is
-  root-level (app f a) bs i p v h = h .0 .level-is
-
   body-place : (b : Term) (bs : List ℕ) (i p v : ℕ) → Holds T (lam b) bs i p v → placeAt T (suc i) ≡ bodyOf i
-  body-place b bs i p v h = place-body (suc i) i (root-parent b (i ∷ bs) (suc i) i v (h .1)) (h .0 .kind-is) (h .0 .left-is)
+  body-place b bs i p v h = place-body (suc i) i (root-parent T b (i ∷ bs) (suc i) i v (h .1)) (h .0 .kind-is) (h .0 .left-is)
 
   function-place : (f a : Term) (bs : List ℕ) (i p v : ℕ) → Holds T (app f a) bs i p v → placeAt T (suc i) ≡ functionOf i
-  function-place f a bs i p v h = place-function (suc i) i (root-parent f bs (suc i) i v (h .1)) (h .0 .kind-is) (h .0 .left-is)
+  function-place f a bs i p v h = place-function (suc i) i (root-parent T f bs (suc i) i v (h .1)) (h .0 .kind-is) (h .0 .left-is)
 
   argument-place : (f a : Term) (bs : List ℕ) (i p v : ℕ) → Holds T (app f a) bs i p v → placeAt T (suc i + size f) ≡ argumentOf i
   argument-place f a bs i p v h =
-      place-argument (suc i + size f) i (root-parent a bs (suc i + size f) i (suc v) (h .2)) (h .0 .kind-is)
+      place-argument (suc i + size f) i (root-parent T a bs (suc i + size f) i (suc v) (h .2)) (h .0 .kind-is)
       (λ e. let l : T .left i ≡ suc i = h .0 .left-is in omega (arith, size-positive f)) (h .0 .right-is)
 
   -- Binder b is around a part: between it and the root i of that part, of level v, stand x abstractions.
@@ -119,7 +109,7 @@ module _ (T : Table) where
       subst (λ k. FactsOf T i (kindOf k)) (sym (h .0 .kind-is)) (subst (λ j. Stands T j (bodyOf i) (T .level i)) (sym (h .0 .left-is)) record {
         there = n;
         place-is = body-place b bs i p v h;
-        level-is = root-level b (i ∷ bs) (suc i) i v (h .1) ∙ sym (h .0 .level-is);
+        level-is = root-level T b (i ∷ bs) (suc i) i v (h .1) ∙ sym (h .0 .level-is);
       })
 
   facts-application : (f a : Term) (bs : List ℕ) (i p v : ℕ) → Holds T (app f a) bs i p v → IsNode T (suc i) → IsNode T (suc i + size f) → FactsOf T i (kindAt T i)
@@ -128,12 +118,12 @@ module _ (T : Table) where
     subst (λ j. Stands T j (functionOf i) (T .level i)) (sym (h .0 .left-is)) record {
       there = n;
       place-is = function-place f a bs i p v h;
-      level-is = root-level f bs (suc i) i v (h .1) ∙ sym (h .0 .level-is);
+      level-is = root-level T f bs (suc i) i v (h .1) ∙ sym (h .0 .level-is);
     },
     subst (λ j. Stands T j (argumentOf i) (suc (T .level i))) (sym (h .0 .right-is)) record {
       there = m;
       place-is = argument-place f a bs i p v h;
-      level-is = root-level a bs (suc i + size f) i (suc v) (h .2) ∙ ap suc (sym (h .0 .level-is));
+      level-is = root-level T a bs (suc i + size f) i (suc v) (h .2) ∙ ap suc (sym (h .0 .level-is));
     },
   )
 

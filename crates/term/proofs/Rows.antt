@@ -1,27 +1,47 @@
 -- The rows of a term and the words of a slice: rows that lie in the slice stand in its table, and rows that stand there are its words.
 use mathlib.Core.Path.{_≡_, refl, sym, ap, ap₂, _∙_, subst}
 use mathlib.Core.List.{List, [], _∷_, _++_, append-assoc, append-nil}
-use Prim.Native.Nat.{ℕ, zero, suc, _+_, _*_, _≤_, _<_}
+use Prim.Native.Nat.{ℕ, suc, _+_, _*_, _≤_, _<_}
 use native.Mathlib.Nat.{suc-add}
 use native.Mathlib.Omega.{arith}
 use lib.ListN.{length, getD, take, drop, length-append, length-take, length-drop}
 use lib.Seq.{getD-append-add, getD-take, getD-drop, take-add, drop-drop, take-all, length-take-le}
 use Rattle.term.specs.Term.{Term, var, lam, app, size}
+use Rattle.term.specs.Walk.{Row}
 use Rattle.term.specs.Table.{row, rowsOf, tableOf, Table, wordAt, tableIn}
-
--- The five words of node i.
-pub record Row (T : Table) (i k l r p v : ℕ) : Type 0 where
-  pub kind-is : T .kind i ≡ k
-  pub left-is : T .left i ≡ l
-  pub right-is : T .right i ≡ r
-  pub parent-is : T .parent i ≡ p
-  pub level-is : T .level i ≡ v
 
 -- The rows of a term stand in a table: its root is node i with parent p and level v, and bs are the binders around it.
 abbrev pub Holds : Table → Term → List ℕ → ℕ → ℕ → ℕ → Type 0
 Holds T (var x) bs i p v = Row T i 1 (getD bs x 0) 0 p v
 Holds T (lam b) bs i p v = Row T i 2 (suc i) 0 p v × Holds T b (i ∷ bs) (suc i) i v
 Holds T (app f a) bs i p v = Row T i 3 (suc i) (suc i + size f) p v × Holds T f bs (suc i) i v × Holds T a bs (suc i + size f) i (suc v)
+
+-- The root of a part, as far as the part is not looked at.
+module _ (T : Table) where
+  pub root-parent : (t : Term) (bs : List ℕ) (i p v : ℕ) → Holds T t bs i p v → T .parent i ≡ p
+  root-parent (var x) bs i p v h = h .parent-is
+  root-parent (lam b) bs i p v h = h .0 .parent-is
+  root-parent (app f a) bs i p v h = h .0 .parent-is
+
+  pub root-level : (t : Term) (bs : List ℕ) (i p v : ℕ) → Holds T t bs i p v → T .level i ≡ v
+  root-level (var x) bs i p v h = h .level-is
+  root-level (lam b) bs i p v h = h .0 .level-is
+  root-level (app f a) bs i p v h = h .0 .level-is
+
+  pub root-left : (t : Term) (bs : List ℕ) (i p v : ℕ) → Holds T t bs i p v → (T .kind i ≡ 1 → ⊥) → T .left i ≡ suc i
+  root-left (var x) bs i p v h k = absurd (k (h .kind-is))
+  root-left (lam b) bs i p v h k = h .0 .left-is
+  root-left (app f a) bs i p v h k = h .0 .left-is
+
+  pub root-right : (t : Term) (bs : List ℕ) (i p v : ℕ) → Holds T t bs i p v → (T .kind i ≡ 3 → ⊥) → T .right i ≡ 0
+  root-right (var x) bs i p v h k = h .right-is
+  root-right (lam b) bs i p v h k = h .0 .right-is
+  root-right (app f a) bs i p v h k = absurd (k (h .0 .kind-is))
+
+  pub root-kind : (t : Term) (bs : List ℕ) (i p v : ℕ) → Holds T t bs i p v → (1 ≤ T .kind i) × (T .kind i ≤ 3)
+  root-kind (var x) bs i p v h = omega (arith, h .kind-is)
+  root-kind (lam b) bs i p v h = omega (arith, h .0 .kind-is)
+  root-kind (app f a) bs i p v h = omega (arith, h .0 .kind-is)
 
 pub size-positive : (t : Term) → 1 ≤ size t
 size-positive (var x) = omega arith

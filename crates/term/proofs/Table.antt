@@ -1,17 +1,32 @@
--- What a table has at a node that is not there, and which words of the slice it reads.
+-- A table in a slice: where a node's word lies, what stands at a node that is not there, and which words are read.
 use mathlib.Core.Path.{_≡_, refl, sym, ap, _∙_}
 use mathlib.Core.List.{List}
-use Prim.Native.Nat.{ℕ, zero, suc, _+_, _*_, _≤_, _<_}
+use Prim.Native.Nat.{ℕ, zero, suc, _+_, _-_, _*_, _≤_, _<_}
 use native.Mathlib.Omega.{arith}
-use lib.ListN.{length, take, length-take, List·getD-eq-default}
-use lib.Seq.{length-take-le}
-use Rattle.term.specs.Table.{Table, wordAt, tableIn, kindOf, nothing, kindAt}
+use lib.ListN.{length, getD, take, length-take, List·getD-eq-default}
+use lib.Seq.{getD-take, length-take-le}
+use Rattle.term.specs.Table.{wordAt, wordIn, tableIn, kindOf, nothing, kindAt}
 use Rattle.term.specs.Accepted.{Accepted}
-use Rattle.term.proofs.Rows.{Row}
+use Rattle.term.specs.Walk.{Row}
 
-word-beyond : (w : List ℕ) (n i k : ℕ) → n < i → wordAt (take (5 * n) w) i k ≡ 0
-word-beyond w n zero k h = refl
-word-beyond w n (suc i) k h = List·getD-eq-default (take (5 * n) w) 0 (simp length-take (omega arith))
+-- the word's place, counted from the first word of node 1
+place-of : (i k : ℕ) → 5 * (suc i - 1) + k ≡ 5 * i + k
+place-of i k = omega arith
+
+pub word-there : (w : List ℕ) (n i k : ℕ) → (i ≡ 0 → ⊥) → 5 * (i - 1) + k < 5 * n → getD w (5 * (i - 1) + k) 0 ≡ wordIn w n i k
+word-there w n zero k h l = absurd (h refl)
+word-there w n (suc i) k h l = ap (λ m. getD w m 0) (place-of i k) ∙ sym (getD-take (5 * n) w (5 * i + k) 0 (omega arith))
+
+pub word-ignored : (w : List ℕ) (n i k : ℕ) → 5 * n ≤ 5 * (i - 1) + k → 0 ≡ wordIn w n i k
+word-ignored w n zero k l = refl
+word-ignored w n (suc i) k l = sym (List·getD-eq-default (take (5 * n) w) 0 (simp length-take (omega arith)))
+
+pub word-short : (w : List ℕ) (n i k : ℕ) → length w ≤ 5 * (i - 1) + k → 0 ≡ wordIn w n i k
+word-short w n zero k l = refl
+word-short w n (suc i) k l = sym (List·getD-eq-default (take (5 * n) w) 0 (simp length-take (omega arith)))
+
+word-beyond : (w : List ℕ) (n i k : ℕ) → n < i → wordIn w n i k ≡ 0
+word-beyond w n i k h = sym (word-ignored w n i k (omega arith))
 
 -- Above the last node each field is 0.
 pub beyond : (w : List ℕ) (n i : ℕ) → n < i → Row (tableIn w n) i 0 0 0 0 0

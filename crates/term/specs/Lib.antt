@@ -3,3 +3,5 @@ pub mod Term
 pub mod Table
 pub mod Accepted
 pub mod Facts
+pub mod Walk
+pub mod Code

@@ -35,15 +35,19 @@ abbrev pub wordAt : List ℕ → ℕ → ℕ → ℕ
 wordAt ws zero k = 0
 wordAt ws (suc i) k = getD ws (5 * i + k) 0
 
--- The table that lies in a slice: "words after the first 5 × n are ignored", so each field is 0 at node 0 and above n.
+-- The same in a slice that holds a table of n nodes: "words after the first 5 × n are ignored", so it is 0 at node 0 and above n.
+abbrev pub wordIn : List ℕ → ℕ → ℕ → ℕ → ℕ
+wordIn w n i k = wordAt (take (5 * n) w) i k
+
+-- The table that lies in a slice.
 unfoldable pub tableIn : List ℕ → ℕ → Table
 tableIn w n = record {
   nodes = n;
-  kind = λ i. wordAt (take (5 * n) w) i 0;
-  left = λ i. wordAt (take (5 * n) w) i 1;
-  right = λ i. wordAt (take (5 * n) w) i 2;
-  parent = λ i. wordAt (take (5 * n) w) i 3;
-  level = λ i. wordAt (take (5 * n) w) i 4;
+  kind = λ i. wordIn w n i 0;
+  left = λ i. wordIn w n i 1;
+  right = λ i. wordIn w n i 2;
+  parent = λ i. wordIn w n i 3;
+  level = λ i. wordIn w n i 4;
 }
 
 -- "The arity of a variable is its level less its binder's level."
