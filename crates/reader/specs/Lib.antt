@@ -5,3 +5,8 @@ pub mod Parse
 pub mod Binding
 pub mod Reading
 pub mod Exactly
+pub mod Scanning
+pub mod Types
+pub mod Layout
+pub mod Answers
+pub mod Steps

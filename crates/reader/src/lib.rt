@@ -1,0 +1,108 @@
+// The reader: the text of a closed term to its table.
+ghost use mathlib.Core.Path.{_≡_};
+ghost use mathlib.Core.List.{[]};
+ghost use Prim.Native.Nat.{_≤_};
+ghost use lib.ListN.{length};
+ghost use Rattle.reader.specs.Grammar.{Tree};
+ghost use Rattle.reader.specs.Binding.{nameless};
+ghost use Rattle.reader.specs.Reading.{readOf};
+ghost use Rattle.reader.specs.Types.{readMeant, refusedReading};
+ghost use Rattle.reader.specs.Steps.{spellingNumber, InCode, CodedIs, answerFor};
+use grammar::Got;
+
+mod bytes;
+mod grammar;
+mod layout;
+mod scan;
+mod token;
+
+// "The reader answers n." A refusal of 0 is none.
+pub struct Reading {
+    pub n: u32,
+    pub refusal: u32,
+}
+
+// Document 01, "The nine numbers": 1 to 6, each put to the whole text. "A refused reader answers n as 0", and then no word is written.
+pub fn read(text: &[u8], table: &mut [u32]) -> Reading
+    ensures { λ r. ⌜ readMeant r (now (table .exit)) ≡ readOf (now (text .entry)) (now (table .entry)) ⌝ }
+{
+    let number = spelling_number(text);
+    if number != 0 {
+        return refused(number);
+    }
+    let mut code = [0u32; 6000];
+    let coded = code_of(text, &mut code);
+    match coded {
+        Coded::Words(n) => answer(&code, n, table),
+        Coded::NoTerm => refused(4),
+    }
+}
+
+fn refused(number: u32) -> Reading
+    ensures { λ r. ⌜ r ≡ refusedReading number ⌝ }
+{
+    Reading {
+        n: 0,
+        refusal: number,
+    }
+}
+
+// Numbers 1 to 3, and 0 for none of them.
+fn spelling_number(text: &[u8]) -> u32
+    ensures { λ r. ⌜ r ≡ spellingNumber (now (text .entry)) ⌝ }
+{
+    if 3000 < text.len() {
+        return 1;
+    }
+    if scan::any_foreign(text) {
+        return 2;
+    }
+    if scan::any_bad_name(text) {
+        return 3;
+    }
+    0
+}
+
+// How many words of code were written, one for each node; or that the text is not a term.
+enum Coded {
+    Words(usize),
+    NoTerm,
+}
+
+// The preorder code of the term that the text spells, with 0 for a name without a binder. There is room for two words for each byte.
+fn code_of(text: &[u8], code: &mut [u32]) -> Coded
+    requires { ⌜ (length (now text) ≤ 3000) × (6000 ≤ length (now code)) ⌝ }
+    ensures { λ r. ⌜ CodedIs (now (text .entry)) r (now (code .exit)) ⌝ }
+{
+    let mut scope = [0u32; 3000];
+    let got = grammar::term(text, 0, &mut scope, 0, code, 0);
+    match got {
+        Got::Read(p, n) => {
+            if scan::skip(text, p) < text.len() {
+                Coded::NoTerm
+            } else {
+                Coded::Words(n)
+            }
+        }
+        Got::Not => Coded::NoTerm,
+    }
+}
+
+// Numbers 5 and 6, and the table where neither applies.
+fn answer(code: &[u32], n: usize, table: &mut [u32]) -> Reading
+    requires { ⌜ ((t : Tree) × InCode (now code) n t) ⌝ }
+    ensures { λ r. ⌜ ((t : Tree) → InCode (now (code .entry)) n t → readMeant r (now (table .exit)) ≡ answerFor (nameless t []) (now (table .entry))) ⌝ }
+{
+    let count = n as u32;
+    if layout::any_zero(code, n) {
+        return refused(5);
+    }
+    if table.len() < 5 * n {
+        return refused(6);
+    }
+    layout::lay_out(code, table);
+    Reading {
+        n: count,
+        refusal: 0,
+    }
+}

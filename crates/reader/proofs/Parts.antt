@@ -1,0 +1,119 @@
+-- The parts of a term whose code stands in a slice, by the word that it begins with.
+use mathlib.Core.Path.{_≡_, refl, sym, ap, _∙_, subst₂}
+use mathlib.Core.List.{List, _∷_, _++_, append-assoc}
+use Prim.Native.Nat.{ℕ, suc, _+_, _*_, _≤_, _<_}
+use native.Mathlib.Numerals.{add-one}
+use native.Mathlib.Omega.{arith}
+use lib.ListN.{length, getD, drop, length-drop, length-append}
+use lib.Seq.{drop-drop, drop-at, getD-drop}
+use Rattle.term.specs.Term.{Term, var, lam, app, size}
+use Rattle.term.specs.Code.{codeOf}
+use Rattle.term.proofs.Rows.{size-positive}
+use Rattle.reader.specs.Layout.{Ready}
+
+-- A term has a word for each node.
+pub code-length : (t : Term) → length (codeOf t) ≡ size t
+unfolding codeOf
+code-length (var x) = refl
+code-length (lam b) = ap suc (code-length b)
+code-length (app f a) = ap suc (length-append (codeOf f) (codeOf a) ∙ omega (arith, code-length f, code-length a))
+
+-- The words that stand after some others: the first of them, and the others.
+module _ (code : List ℕ) (before w : ℕ) (ws : List ℕ) (e : drop before code ≡ w ∷ ws) where
+  first-word : getD code before 0 ≡ w
+  first-word = let z : before + 0 ≡ before = omega arith in rw (← z) (sym (getD-drop before code 0 0) ∙ ap (λ l. getD l 0 0) e)
+
+  other-words : drop (before + 1) code ≡ ws
+  other-words = sym (drop-drop 1 before code) ∙ ap (drop 1) e
+
+-- those after a part's
+later-words : (code : List ℕ) (before next : ℕ) (ws rest : List ℕ) → drop before code ≡ ws ++ rest → next ≡ before + length ws → drop next code ≡ rest
+later-words code before next ws rest e h = rw h (sym (drop-drop (length ws) before code) ∙ rw e (drop-at ws rest (length ws) refl))
+
+-- a part is as ready in slices of the same lengths
+pub ready-as : {code : List ℕ} {before d s s′ l l′ : ℕ} {t : Term} → s ≡ s′ → l ≡ l′ → Ready code before d s l t → Ready code before d s′ l′ t
+ready-as {code} {before} {d} {t = t} e h r = subst₂ (λ m n. Ready code before d m n t) e h r
+
+-- A node of its own has its word, its row and its place in the scope.
+pub record Enough (code : List ℕ) (before d s l : ℕ) : Type 0 where
+  pub in-code : before < length code
+  pub few-nodes : before < 3000
+  pub scope-room : d < s
+  pub table-room : 5 * before + 5 ≤ l
+
+module _ (code : List ℕ) (before d s l : ℕ) where
+  abbrev Here : Term → Type 0
+  Here t = Ready code before d s l t
+
+  pub enough : (t : Term) → Here t → Enough code before d s l
+  enough t r =
+      let n = size-positive t in
+      record {
+        in-code = omega (arith, ap length (r .stands), length-drop before code, length-append (codeOf t) (r .rest), code-length t);
+        few-nodes = omega arith;
+        scope-room = omega arith;
+        table-room = omega arith;
+      }
+
+  -- the word 1 begins an abstraction,
+  pub body-ready : (t : Term) → Here t → getD code before 0 ≡ 1 → (b : Term) × (t ≡ lam b) × Ready code (before + 1) (d + 1) s l b
+  unfolding codeOf
+  body-ready (var x) r e = absurd (omega (arith, first-word code before (3 + x) (r .rest) (r .stands)))
+  body-ready (lam b) r e = (
+    b,
+    refl,
+    record {
+      rest = r .rest;
+      stands = other-words code before 1 (codeOf b ++ r .rest) (r .stands);
+      closed = rw add-one (r .closed);
+      few-nodes = omega arith;
+      scope-room = omega arith;
+      table-room = omega arith;
+    },
+  )
+  body-ready (app f a) r e = absurd (omega (arith, first-word code before 2 (codeOf f ++ codeOf a ++ r .rest) (r .stands)))
+
+  -- the word 2 an application, whose argument stands after its function,
+  pub record Parts (t : Term) : Type 0 where
+    pub function : Term
+    pub argument : Term
+    pub is-app : t ≡ app function argument
+    pub function-ready : Ready code (before + 1) d s l function
+    pub argument-ready : (next : ℕ) → next ≡ before + 1 + size function → Ready code next d s l argument
+
+  pub parts-ready : (t : Term) → Here t → getD code before 0 ≡ 2 → Parts t
+  unfolding codeOf
+  parts-ready (var x) r e = absurd (omega (arith, first-word code before (3 + x) (r .rest) (r .stands)))
+  parts-ready (lam b) r e = absurd (omega (arith, first-word code before 1 (codeOf b ++ r .rest) (r .stands)))
+  parts-ready (app f a) r e = record {
+    function = f;
+    argument = a;
+    is-app = refl;
+    function-ready = record {
+      rest = codeOf a ++ r .rest;
+      stands = after;
+      closed = r .closed .0;
+      few-nodes = omega arith;
+      scope-room = omega arith;
+      table-room = omega arith;
+    };
+    argument-ready = λ next h. record {
+      rest = r .rest;
+      stands = later-words code (before + 1) next (codeOf f) (codeOf a ++ r .rest) after (omega (arith, code-length f));
+      closed = r .closed .1;
+      few-nodes = omega arith;
+      scope-room = omega arith;
+      table-room = omega arith;
+    };
+  }
+    where
+      after : drop (before + 1) code ≡ codeOf f ++ (codeOf a ++ r .rest)
+      after = other-words code before 2 (codeOf f ++ codeOf a ++ r .rest) (r .stands) ∙ append-assoc (codeOf f) (codeOf a) (r .rest)
+
+  -- and every other word a variable.
+  pub index-ready : (t : Term) → Here t → (getD code before 0 ≡ 1 → ⊥) → (getD code before 0 ≡ 2 → ⊥)
+      → (x : ℕ) × (t ≡ var x) × (getD code before 0 ≡ 3 + x) × (x < d)
+  unfolding codeOf
+  index-ready (var x) r n m = (x, refl, first-word code before (3 + x) (r .rest) (r .stands), r .closed)
+  index-ready (lam b) r n m = absurd (n (first-word code before 1 (codeOf b ++ r .rest) (r .stands)))
+  index-ready (app f a) r n m = absurd (m (first-word code before 2 (codeOf f ++ codeOf a ++ r .rest) (r .stands)))

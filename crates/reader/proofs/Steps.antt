@@ -1,0 +1,70 @@
+-- The steps of a reading make up the whole: numbers 1 to 3, then number 4, then what is answered to a tree.
+use mathlib.Core.Path.{_≡_, refl, sym, ap, _∙_}
+use mathlib.Core.Bool.{Bool, true, false, cond}
+use mathlib.Core.Option.{Option, none, some, Option·getD}
+use mathlib.Core.List.{List, [], _∷_}
+use Prim.Native.Nat.{ℕ, _*_, _≤_}
+use native.Mathlib.Omega.{arith}
+use lib.ListN.{length}
+use lib.Dec.{ltb}
+use borrow.Author.Tests.{ltb-false}
+use Rattle.term.specs.Choice.{Test, _⇒_, first, isNone}
+use Rattle.term.specs.Term.{Term, size}
+use Rattle.reader.specs.Tokens.{tokens, anyBadName}
+use Rattle.reader.specs.Grammar.{Phrase, phraseTree}
+use Rattle.reader.specs.Parse.{parse}
+use Rattle.reader.specs.Binding.{nameless}
+use Rattle.reader.specs.Reading.{mostBytes, anyForeign, meant, tooShort, readerNumber, refused, laidOut, answer, readOf}
+use Rattle.reader.specs.Steps.{spellingNumber, answerFor}
+
+-- Numbers 1 to 3: they come first, and where none of them applies the others are left.
+abbrev three : Bool → Bool → Bool → List (Test ℕ) → List (Test ℕ)
+three a b c ts = (a ⇒ 1) ∷ (b ⇒ 2) ∷ (c ⇒ 3) ∷ ts
+
+first-of-three : (a b c : Bool) (ts : List (Test ℕ)) (k : ℕ) → k ≡ Option·getD (first (three a b c [])) 0 → (k ≡ 0 → ⊥)
+    → first (three a b c ts) ≡ some k
+first-of-three true b c ts k e n = ap some (sym e)
+first-of-three false true c ts k e n = ap some (sym e)
+first-of-three false false true ts k e n = ap some (sym e)
+first-of-three false false false ts k e n = absurd (n e)
+
+none-of-three : (a b c : Bool) (ts : List (Test ℕ)) → _≡_ {A = ℕ} 0 (Option·getD (first (three a b c [])) 0)
+    → (a ≡ false) × (first (three a b c ts) ≡ first ts)
+none-of-three true b c ts e = absurd (omega arith)
+none-of-three false true c ts e = absurd (omega arith)
+none-of-three false false true ts e = absurd (omega arith)
+none-of-three false false false ts e = (refl, refl)
+
+module _ (text table : List ℕ) where
+  pub misspelled : (k : ℕ) → k ≡ spellingNumber text → (k ≡ 0 → ⊥) → readOf text table ≡ refused k table
+  unfolding readOf readerNumber spellingNumber
+  misspelled k e n =
+      ap (λ o. answer o (meant text) table) (first-of-three (ltb mostBytes (length text)) (anyForeign text) (anyBadName (tokens text)) _ k e n)
+
+  pub few-bytes : 0 ≡ spellingNumber text → length text ≤ mostBytes
+  unfolding spellingNumber
+  few-bytes e = ltb-false mostBytes (length text) (none-of-three (ltb mostBytes (length text)) (anyForeign text) (anyBadName (tokens text)) [] e .0)
+
+  -- the other three, by what is parsed
+  abbrev otherThree : List (Test ℕ)
+  otherThree = (isNone (parse (tokens text)) ⇒ 4) ∷ (isNone (meant text) ⇒ 5) ∷ (tooShort (meant text) table ⇒ 6) ∷ []
+
+  other-three : 0 ≡ spellingNumber text → readOf text table ≡ answer (first otherThree) (meant text) table
+  unfolding readOf readerNumber spellingNumber
+  other-three e =
+      ap (λ o. answer o (meant text) table) (none-of-three (ltb mostBytes (length text)) (anyForeign text) (anyBadName (tokens text)) otherThree e .1)
+
+  pub no-term : 0 ≡ spellingNumber text → parse (tokens text) ≡ none → readOf text table ≡ refused 4 table
+  no-term e n = other-three e ∙ rw n
+
+  by-term : (o : Option Term) → answer (first ((false ⇒ 4) ∷ (isNone o ⇒ 5) ∷ (tooShort o table ⇒ 6) ∷ [])) o table ≡ answerFor o table
+  by-term none = refl
+  by-term (some t) = by-test (ltb (length table) (5 * size t))
+    where
+      by-test : (s : Bool) → answer (first ((s ⇒ 6) ∷ [])) (some t) table ≡ cond s (refused 6 table) (laidOut t table)
+      by-test true = refl
+      by-test false = refl
+
+  pub a-phrase : 0 ≡ spellingNumber text → (p : Phrase) → parse (tokens text) ≡ some p → readOf text table ≡ answerFor (nameless (phraseTree p) []) table
+  unfolding meant
+  a-phrase e p h = other-three e ∙ rw h (by-term (nameless (phraseTree p) []))

@@ -1,0 +1,81 @@
+-- The readings of tokens as deep as they need call on each other as the grammar does.
+use mathlib.Core.Path.{_≡_, refl, ap, _∙_}
+use mathlib.Core.Option.{some}
+use mathlib.Core.List.{List, _∷_}
+use Prim.Native.Nat.{ℕ, suc, _+_, _*_, _≤_}
+use native.Mathlib.Nat.{le-refl}
+use native.Mathlib.Omega.{arith}
+use lib.ListN.{length}
+use Rattle.term.specs.Choice.{_>>=_, choose, ifSome}
+use Rattle.reader.specs.Bytes.{lambda, dot, opening}
+use Rattle.reader.specs.Tokens.{Token, mark}
+use Rattle.reader.specs.Grammar.{no-more, named, atomTokens}
+use Rattle.reader.specs.Parse.{parsed, afterMark, nameFirst, startsAtom, phraseAt, atomsAt, atomAt}
+use Rattle.reader.specs.Answers.{phraseFrom, atomsFrom, atomFrom, abstractionFrom, applicationFrom, moreFrom, bracketedFrom}
+use Rattle.reader.proofs.Each.{Each, bind-same, bind-steady, bind-ap, if-same, choose-same}
+use Rattle.reader.proofs.Spelt.{Spelt, nameTokens, after-spelt, name-spelt, atom-spelt, atom-shorter}
+use Rattle.reader.proofs.Steady.{phrase-steady, atoms-steady, atom-steady}
+
+-- deep enough is as deep as they need
+phrase-deep : (f : ℕ) (ts : List Token) → 3 * length ts + 3 ≤ f → phraseAt f ts ≡ phraseFrom ts
+unfolding phraseFrom
+phrase-deep f ts h = phrase-steady f (3 * length ts + 3) ts h (le-refl _)
+
+atoms-deep : (f : ℕ) (ts : List Token) → 3 * length ts + 2 ≤ f → atomsAt f ts ≡ atomsFrom ts
+unfolding atomsFrom
+atoms-deep f ts h = atoms-steady f (3 * length ts + 2) ts h (le-refl _)
+
+atom-deep : (f : ℕ) (ts : List Token) → 3 * length ts + 1 ≤ f → atomAt f ts ≡ atomFrom ts
+unfolding atomFrom
+atom-deep f ts h = atom-steady f (3 * length ts + 1) ts h (le-refl _)
+
+from-spelt : (ts : List Token) → Each (Spelt atomTokens ts) (atomFrom ts)
+unfolding atomFrom
+from-spelt ts = atom-spelt (3 * length ts + 1) ts
+
+phrase-next : (f : ℕ) (ts : List Token) → 3 * length ts + 2 ≤ f
+    → phraseAt (suc f) ts ≡ ifSome (afterMark lambda ts) abstractionFrom (λ _. applicationFrom ts)
+unfolding phraseAt
+phrase-next f ts h =
+    if-same (λ us. mark lambda ∷ us ≡ ts) (afterMark lambda ts) _ _ _ _ (after-spelt lambda ts)
+    (λ us e. bind-same (Spelt nameTokens us) (nameFirst us) _ _ (name-spelt us)
+    λ x ex. bind-same (λ vs. mark dot ∷ vs ≡ x .left) (afterMark dot (x .left)) _ _ (after-spelt dot (x .left))
+    λ vs ev. bind-ap (phraseAt f vs) (phraseFrom vs) _ (phrase-deep f vs (omega (arith, ap length e, ap length ex, ap length ev))))
+    (bind-steady (Spelt atomTokens ts) (atomAt f ts) (atomFrom ts) _ _ (atom-deep f ts (omega arith)) (from-spelt ts)
+    λ a ea. bind-ap (atomsAt f (a .left)) (atomsFrom (a .left)) _ (atoms-deep f (a .left) (omega (arith, atom-shorter ts a ea))))
+
+pub phrase-from : (ts : List Token) → phraseFrom ts ≡ ifSome (afterMark lambda ts) abstractionFrom (λ _. applicationFrom ts)
+unfolding phraseFrom
+phrase-from ts =
+    let e : 3 * length ts + 3 ≡ suc (3 * length ts + 2) = omega arith in
+    ap (λ (f : ℕ). phraseAt f ts) e ∙ phrase-next (3 * length ts + 2) ts (le-refl _)
+
+atoms-next : (f : ℕ) (ts : List Token) → 3 * length ts + 1 ≤ f
+    → atomsAt (suc f) ts ≡ choose (startsAtom ts) (λ _. moreFrom ts) (λ _. some (parsed no-more ts))
+unfolding atomsAt
+atoms-next f ts h =
+    choose-same (startsAtom ts) _ _ _ _
+    (bind-steady (Spelt atomTokens ts) (atomAt f ts) (atomFrom ts) _ _ (atom-deep f ts (omega arith)) (from-spelt ts)
+    λ a ea. bind-ap (atomsAt f (a .left)) (atomsFrom (a .left)) _ (atoms-deep f (a .left) (omega (arith, atom-shorter ts a ea))))
+    refl
+
+pub atoms-from : (ts : List Token) → atomsFrom ts ≡ choose (startsAtom ts) (λ _. moreFrom ts) (λ _. some (parsed no-more ts))
+unfolding atomsFrom
+atoms-from ts =
+    let e : 3 * length ts + 2 ≡ suc (3 * length ts + 1) = omega arith in
+    ap (λ (f : ℕ). atomsAt f ts) e ∙ atoms-next (3 * length ts + 1) ts (le-refl _)
+
+atom-next : (f : ℕ) (ts : List Token) → 3 * length ts ≤ f
+    → atomAt (suc f) ts ≡ ifSome (nameFirst ts) (λ x. some (parsed (named (x .value)) (x .left))) (λ _. afterMark opening ts >>= bracketedFrom)
+unfolding atomAt
+atom-next f ts h =
+    if-same (Spelt nameTokens ts) (nameFirst ts) _ _ _ _ (name-spelt ts) (λ x e. refl)
+    (bind-same (λ us. mark opening ∷ us ≡ ts) (afterMark opening ts) _ _ (after-spelt opening ts)
+    λ us eu. bind-ap (phraseAt f us) (phraseFrom us) _ (phrase-deep f us (omega (arith, ap length eu))))
+
+pub atom-from : (ts : List Token)
+    → atomFrom ts ≡ ifSome (nameFirst ts) (λ x. some (parsed (named (x .value)) (x .left))) (λ _. afterMark opening ts >>= bracketedFrom)
+unfolding atomFrom
+atom-from ts =
+    let e : 3 * length ts + 1 ≡ suc (3 * length ts) = omega arith in
+    ap (λ (f : ℕ). atomAt f ts) e ∙ atom-next (3 * length ts) ts (le-refl _)

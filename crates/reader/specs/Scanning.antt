@@ -1,0 +1,47 @@
+-- A text by positions: how far a name and a gap reach, and the names that stand at the positions of a scope.
+use mathlib.Core.Bool.{Bool, true, false, cond, not, _||_}
+use mathlib.Core.Option.{Option, none, some}
+use mathlib.Core.List.{List, [], _∷_, _++_}
+use Prim.Native.Nat.{ℕ, zero, suc, _+_}
+use lib.ListN.{take, drop, getD}
+use Rattle.reader.specs.Bytes.{Class, letter, digit, blank, sign, foreign, classOf, inName}
+use Rattle.reader.specs.Tokens.{Name}
+use Rattle.reader.specs.Grammar.{Tree, variable, binder, apply}
+use Rattle.reader.specs.Binding.{indexOf}
+
+-- neither a byte of a name nor a sign
+abbrev pub inGap : Class → Bool
+inGap letter = false
+inGap digit = false
+inGap blank = true
+inGap sign = false
+inGap foreign = true
+
+-- how many bytes of a name the text begins with
+unfoldable pub nameRun : List ℕ → ℕ
+nameRun [] = 0
+nameRun (b ∷ s) = cond (inName (classOf b)) (suc (nameRun s)) 0
+
+-- how many bytes stand before its first token
+unfoldable pub gapRun : List ℕ → ℕ
+gapRun [] = 0
+gapRun (b ∷ s) = cond (inGap (classOf b)) (suc (gapRun s)) 0
+
+-- the name that stands at a position
+abbrev pub nameAt : List ℕ → ℕ → Name
+nameAt text a = take (nameRun (drop a text)) (drop a text)
+
+-- the names that stand at the positions of a scope, whose last is the innermost; innermost first
+unfoldable pub namesAt : List ℕ → List ℕ → List Name → List Name
+namesAt text [] around = around
+namesAt text (a ∷ scope) around = namesAt text scope (nameAt text a ∷ around)
+
+-- The code of a tree among the names around it: as a term's code, and 0 for a name without a binder.
+abbrev pub variableWord : Option ℕ → ℕ
+variableWord none = 0
+variableWord (some k) = 3 + k
+
+unfoldable pub treeCode : Tree → List Name → List ℕ
+treeCode (variable x) around = variableWord (indexOf x around) ∷ []
+treeCode (binder x t) around = 1 ∷ treeCode t (x ∷ around)
+treeCode (apply f a) around = 2 ∷ (treeCode f around ++ treeCode a around)

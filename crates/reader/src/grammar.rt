@@ -1,0 +1,200 @@
+// Reading by the grammar: a term, an application and an atom, which call on each other, into the preorder code of what is read.
+ghost use mathlib.Core.Path.{_≡_};
+ghost use mathlib.Core.List.{List, _++_};
+ghost use Prim.Native.Nat.{ℕ, _+_, _≤_};
+ghost use lib.ListN.{length, replicate};
+ghost use lib.Seq.{sets};
+ghost use Rattle.reader.specs.Answers.{place, Room, Answer, Answers, phraseFrom, abstractionFrom, applicationFrom, atomFrom, bracketedFrom, phraseCode, atomCode};
+use crate::scan::variable_word;
+use crate::token::After;
+use crate::token::First;
+use crate::token::after_mark;
+use crate::token::name_first;
+use crate::token::starts_atom;
+
+// The position after what was read, and the word after its code.
+pub(crate) enum Got {
+    Read(usize, usize),
+    Not,
+}
+
+// The same for the atoms after the first, and how many there are.
+pub(crate) enum Many {
+    Run(usize, usize, usize),
+    Bad,
+}
+
+pub(crate) fn term(
+    text: &[u8],
+    at: usize,
+    scope: &mut [u32],
+    depth: usize,
+    out: &mut [u32],
+    node: usize,
+) -> Got
+    requires { ⌜ Room (place (now text) at (now scope) depth (now out) node) ⌝ }
+    ensures { λ r. ⌜ Answer phraseFrom phraseCode (place (now (text .entry)) at (now (scope .entry)) depth (now (out .entry)) node) r (now (scope .exit)) (now (out .exit)) ⌝ }
+{
+    let first = after_mark(text, at, b'\\');
+    match first {
+        After::Mark(p) => abstraction(text, p, scope, depth, out, node),
+        After::NoMark => application(text, at, scope, depth, out, node),
+    }
+}
+
+// A term after its `\`: the name, which is in scope for the body, and the body.
+fn abstraction(
+    text: &[u8],
+    at: usize,
+    scope: &mut [u32],
+    depth: usize,
+    out: &mut [u32],
+    node: usize,
+) -> Got
+    requires { ⌜ Room (place (now text) at (now scope) depth (now out) node) ⌝ }
+    ensures { λ r. ⌜ Answer abstractionFrom phraseCode (place (now (text .entry)) at (now (scope .entry)) depth (now (out .entry)) node) r (now (scope .exit)) (now (out .exit)) ⌝ }
+{
+    let first = name_first(text, at);
+    match first {
+        First::Name(x, p) => {
+            let dot = after_mark(text, p, b'.');
+            match dot {
+                After::Mark(q) => {
+                    scope[depth] = x as u32;
+                    out[node] = 1;
+                    term(text, q, scope, depth + 1, out, node + 1)
+                }
+                After::NoMark => Got::Not,
+            }
+        }
+        First::NoName => Got::Not,
+    }
+}
+
+// The atoms are written one after another, and then the marks of their applications in front of them.
+fn application(
+    text: &[u8],
+    at: usize,
+    scope: &mut [u32],
+    depth: usize,
+    out: &mut [u32],
+    node: usize,
+) -> Got
+    requires { ⌜ Room (place (now text) at (now scope) depth (now out) node) ⌝ }
+    ensures { λ r. ⌜ Answer applicationFrom phraseCode (place (now (text .entry)) at (now (scope .entry)) depth (now (out .entry)) node) r (now (scope .exit)) (now (out .exit)) ⌝ }
+{
+    let first = atom(text, at, scope, depth, out, node);
+    match first {
+        Got::Read(p, m) => {
+            let rest = more(text, p, scope, depth, out, m);
+            match rest {
+                Many::Run(q, n, k) => {
+                    marks(out, node, n, k);
+                    Got::Read(q, n + k)
+                }
+                Many::Bad => Got::Not,
+            }
+        }
+        Got::Not => Got::Not,
+    }
+}
+
+// The atoms after the first.
+fn more(
+    text: &[u8],
+    at: usize,
+    scope: &mut [u32],
+    depth: usize,
+    out: &mut [u32],
+    node: usize,
+) -> Many
+    requires { ⌜ Room (place (now text) at (now scope) depth (now out) node) ⌝ }
+    ensures { λ r. ⌜ Answers (place (now (text .entry)) at (now (scope .entry)) depth (now (out .entry)) node) r (now (scope .exit)) (now (out .exit)) ⌝ }
+{
+    if starts_atom(text, at) {
+        let first = atom(text, at, scope, depth, out, node);
+        match first {
+            Got::Read(p, m) => {
+                let rest = more(text, p, scope, depth, out, m);
+                match rest {
+                    Many::Run(q, n, k) => Many::Run(q, n, k + 1),
+                    Many::Bad => Many::Bad,
+                }
+            }
+            Got::Not => Many::Bad,
+        }
+    } else {
+        Many::Run(at, node, 0)
+    }
+}
+
+fn atom(
+    text: &[u8],
+    at: usize,
+    scope: &mut [u32],
+    depth: usize,
+    out: &mut [u32],
+    node: usize,
+) -> Got
+    requires { ⌜ Room (place (now text) at (now scope) depth (now out) node) ⌝ }
+    ensures { λ r. ⌜ Answer atomFrom atomCode (place (now (text .entry)) at (now (scope .entry)) depth (now (out .entry)) node) r (now (scope .exit)) (now (out .exit)) ⌝ }
+{
+    let first = name_first(text, at);
+    match first {
+        First::Name(x, p) => {
+            let word = variable_word(text, x, scope, depth);
+            out[node] = word;
+            Got::Read(p, node + 1)
+        }
+        First::NoName => {
+            let opened = after_mark(text, at, b'(');
+            match opened {
+                After::Mark(p) => brackets(text, p, scope, depth, out, node),
+                After::NoMark => Got::Not,
+            }
+        }
+    }
+}
+
+// The term in brackets, after the opening one.
+fn brackets(
+    text: &[u8],
+    at: usize,
+    scope: &mut [u32],
+    depth: usize,
+    out: &mut [u32],
+    node: usize,
+) -> Got
+    requires { ⌜ Room (place (now text) at (now scope) depth (now out) node) ⌝ }
+    ensures { λ r. ⌜ Answer bracketedFrom atomCode (place (now (text .entry)) at (now (scope .entry)) depth (now (out .entry)) node) r (now (scope .exit)) (now (out .exit)) ⌝ }
+{
+    let inner = term(text, at, scope, depth, out, node);
+    match inner {
+        Got::Read(p, m) => {
+            let closed = after_mark(text, p, b')');
+            match closed {
+                After::Mark(q) => Got::Read(q, m),
+                After::NoMark => Got::Not,
+            }
+        }
+        Got::Not => Got::Not,
+    }
+}
+
+// Moves the words from `first` to `end` up by `by`, and puts `by` marks of applications in front of them.
+fn marks(out: &mut [u32], first: usize, end: usize, by: usize)
+    requires { ⌜ (first ≤ end) × (end + by ≤ length (now out)) ⌝ }
+    ensures { λ _. ⌜ ((b ws : List ℕ) → now (out .entry) ≡ sets b first ws → end ≡ first + length ws → now (out .exit) ≡ sets b first (replicate by 2 ++ ws)) ⌝ }
+{
+    let mut i = end;
+    while first < i {
+        i -= 1;
+        let w = out[i];
+        out[i + by] = w;
+    }
+    let mut k = 0;
+    while k < by {
+        out[first + k] = 2;
+        k += 1;
+    }
+}

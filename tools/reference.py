@@ -1,0 +1,377 @@
+#!/usr/bin/env python3
+"""An independent reading of document 01, from which the expected outputs of the programs `cases` and `winder` are worked out.
+
+  tools/reference.py cases            what `cases` must print
+  tools/reference.py winder < TERM    what `winder` must print for a term
+
+It shares nothing with the crates: terms are trees with names, entries are nested tuples, the machine is the eight rules over them, and a session is
+checked by reading its words back. It is slow and plain on purpose.
+"""
+import sys
+
+GREATEST = 4294967295
+
+
+# ---- the text of a term
+
+class Refused(Exception):
+    def __init__(self, number):
+        self.number = number
+
+
+def tokens(text):
+    out, i = [], 0
+    while i < len(text):
+        b = text[i]
+        if 97 <= b <= 122 or 48 <= b <= 57:
+            j = i
+            while j < len(text) and (97 <= text[j] <= 122 or 48 <= text[j] <= 57):
+                j += 1
+            out.append(text[i:j])
+            i = j
+        else:
+            if b not in (32, 10):
+                out.append(bytes([b]))
+            i += 1
+    return out
+
+
+def is_name(t):
+    return t not in (b'\\', b'.', b'(', b')')
+
+
+def parse(ts):
+    """A named tree, iteratively: a stack of open brackets, each with its pending binders and the atoms so far."""
+    stack, binders, atoms, i = [], [], None, 0
+
+    def closed(binders, atoms):
+        if atoms is None:
+            raise Refused(4)
+        for x in reversed(binders):
+            atoms = ('lam', x, atoms)
+        return atoms
+
+    def with_atom(atoms, a):
+        return a if atoms is None else ('app', atoms, a)
+
+    while i < len(ts):
+        t = ts[i]
+        if t == b'\\':
+            if atoms is not None or i + 2 >= len(ts) or not is_name(ts[i + 1]) or ts[i + 2] != b'.':
+                raise Refused(4)
+            binders.append(ts[i + 1])
+            i += 3
+            continue
+        if t == b'.':
+            raise Refused(4)
+        if t == b'(':
+            stack.append((binders, atoms))
+            binders, atoms = [], None
+        elif t == b')':
+            if not stack:
+                raise Refused(4)
+            inner = closed(binders, atoms)
+            binders, atoms = stack.pop()
+            atoms = with_atom(atoms, inner)
+        else:
+            atoms = with_atom(atoms, ('var', t))
+        i += 1
+    if stack:
+        raise Refused(4)
+    return closed(binders, atoms)
+
+
+def rows(tree):
+    """The rows of a tree, or Refused(5). Each node is (kind, left, right, parent, level), numbered in preorder."""
+    table = []
+    work = [(tree, 0, 0, ())]  # tree, parent, level, scope as a linked list (name, node, outer)
+    rights = {}
+    while work:
+        t, p, v, scope = work.pop()
+        i = len(table) + 1
+        if p and table[p - 1][0] == 3 and table[p - 1][1] != i:
+            table[p - 1][2] = i
+        if t[0] == 'var':
+            s = scope
+            while s and s[0] != t[1]:
+                s = s[2]
+            if not s:
+                raise Refused(5)
+            table.append([1, s[1], 0, p, v])
+        elif t[0] == 'lam':
+            table.append([2, i + 1, 0, p, v])
+            work.append((t[2], i, v, (t[1], i, scope)))
+        else:
+            table.append([3, i + 1, 0, p, v])
+            work.append((t[2], i, v + 1, scope))
+            work.append((t[1], i, v, scope))
+    return table
+
+
+def read(text, room):
+    """n, number, and the words that are laid out (none where refused)."""
+    try:
+        if len(text) > 3000:
+            raise Refused(1)
+        if any(not (97 <= b <= 122 or 48 <= b <= 57 or b in b'\\.() \n') for b in text):
+            raise Refused(2)
+        ts = tokens(text)
+        if any(is_name(t) and (len(t) > 8 or 48 <= t[0] <= 57) for t in ts):
+            raise Refused(3)
+        table = rows(parse(ts))
+        if room < 5 * len(table):
+            raise Refused(6)
+        return len(table), 0, [w for r in table for w in r]
+    except Refused as r:
+        return 0, r.number, []
+
+
+# ---- the machine
+
+class Machine:
+    def __init__(self, table):
+        self.t = table
+
+    def row(self, i):
+        return self.t[i - 1] if 1 <= i <= len(self.t) else [0, 0, 0, 0, 0]
+
+    def arity(self, v):
+        return self.row(v)[4] - self.row(self.row(v)[1])[4]
+
+    def step(self, s):
+        """Entries are (variable, (entries..)), a bullet is None; lists have their top first."""
+        i, d, log, tape = s
+        kind, left, right, parent, level = self.row(i)
+        if d == 'd':
+            if kind == 3:
+                return (left, 'd', log, [None] + tape)
+            if kind == 2 and tape and tape[0] is None:
+                return (left, 'd', log, tape[1:])
+            if kind == 1:
+                a = self.arity(i)
+                if a > len(log):
+                    return None
+                return (left, 'u', log[a:], [(i, tuple(log[:a]))] + tape)
+            if kind == 2 and tape and self.row(tape[0][0])[0] == 1 and self.row(tape[0][0])[1] == i:
+                v, es = tape[0]
+                return (v, 'u', list(es) + log, tape[1:])
+            return None
+        pk, pl, pr = self.row(parent)[:3]
+        if pk == 3 and pl == i and tape:
+            if tape[0] is None:
+                return (parent, 'u', log, tape[1:])
+            return (pr, 'd', [tape[0]] + log, tape[1:])
+        if pk == 2 and pl == i:
+            return (parent, 'u', log, [None] + tape)
+        if pk == 3 and pr == i and pl != i and log:
+            return (pl, 'd', log[1:], [log[0]] + tape)
+        return None
+
+    def step_back(self, s):
+        i, d, log, tape = s
+        u = self.step((i, 'u' if d == 'd' else 'd', log, tape))
+        return u and (u[0], 'u' if u[1] == 'd' else 'd', u[2], u[3])
+
+    def answers(self, s):
+        return s[1] == 'd' and self.row(s[0])[0] == 2 and not s[3]
+
+
+def entry_words(e):
+    return [e[0]] + [w for x in e[1] for w in entry_words(x)]
+
+
+def words(items):
+    out = []
+    for x in items:
+        out += [0] if x is None else entry_words(x)
+    return out
+
+
+def weight(s):
+    return len(words(s[2])) + len(words(s[3]))
+
+
+def wind(m, s, position, count, log_room, tape_room, back):
+    """The last state, its position, the steps, the stop and the peak."""
+    steps, peak = 0, weight(s)
+    while True:
+        if count == 0:
+            return s, position, steps, 'spent', peak
+        if back:
+            if position == 0:
+                return s, position, steps, 'start', peak
+            u = m.step_back(s)
+            if u is None:
+                return s, position, steps, 'jam', peak
+        else:
+            if m.answers(s):
+                return s, position, steps, 'answer %d' % s[0], peak
+            u = m.step(s)
+            if u is None:
+                return s, position, steps, 'jam', peak
+            if position == GREATEST:
+                return s, position, steps, 'far', peak
+        if len(words(u[2])) > log_room:
+            return s, position, steps, 'log full', peak
+        if len(words(u[3])) > tape_room:
+            return s, position, steps, 'tape full', peak
+        s, position, steps, count = u, position + (-1 if back else 1), steps + 1, count - 1
+        peak = max(peak, weight(s))
+
+
+START = (1, 'd', [], [])
+
+
+# ---- sessions on any words
+
+def accepted(w, n):
+    """Number 7 does not apply: the rows are those of the one term that their kinds and binders allow."""
+    if not 1 <= n <= 3000 or len(w) < 5 * n:
+        return None
+    table = [w[5 * i:5 * i + 5] for i in range(n)]
+    work, at, expected = [(0, 0, frozenset())], 0, []
+    while work:
+        item = work.pop()
+        if item[0] == 'right':
+            if table[item[1] - 1][2] != at + 1:
+                return None
+            continue
+        p, v, scope = item
+        at += 1
+        if at > n:
+            return None
+        k, l, r, q, u = table[at - 1]
+        if q != p or u != v:
+            return None
+        if k == 1:
+            if r != 0 or l not in scope:
+                return None
+        elif k == 2:
+            if l != at + 1 or r != 0:
+                return None
+            work.append((at, v, scope | {at}))
+        elif k == 3:
+            if l != at + 1:
+                return None
+            work.append((at, v + 1, scope))
+            work.append(('right', at))
+            work.append((at, v, scope))
+        else:
+            return None
+    return table if at == n else None
+
+
+def entries(m, ws, with_bullets):
+    """The items of a list whose words, from the top, are ws; or None."""
+    pos = 0
+
+    def one():
+        nonlocal pos
+        if pos >= len(ws) or m.row(ws[pos])[0] != 1:
+            return None
+        v = ws[pos]
+        pos += 1
+        inner = []
+        for _ in range(m.arity(v)):
+            e = one()
+            if e is None:
+                return None
+            inner.append(e)
+        return (v, tuple(inner))
+
+    out = []
+    while pos < len(ws):
+        if with_bullets and ws[pos] == 0:
+            out.append(None)
+            pos += 1
+        else:
+            e = one()
+            if e is None:
+                return None
+            out.append(e)
+    return out
+
+
+class Session:
+    def __init__(self, node=0, dir='d', position=0, log_len=0, tape_len=0):
+        self.node, self.dir, self.position, self.log_len, self.tape_len = node, dir, position, log_len, tape_len
+
+    def shown(self):
+        return '%d %s %d %d %d' % (self.node, self.dir, self.position, self.log_len, self.tape_len)
+
+
+def lay(ws, room):
+    return list(reversed(ws)) + [0] * (room - len(ws))
+
+
+def open_session(w, n, log, tape):
+    """The session and the number; the slices are lists, changed in place."""
+    if accepted(w, n) is None:
+        return Session(), 7
+    if len(log) > 16384 or len(tape) > 16384:
+        return Session(), 8
+    log[:] = [0] * len(log)
+    tape[:] = [0] * len(tape)
+    return Session(1), 0
+
+
+def given(w, n, se, log, tape):
+    table = accepted(w, n)
+    if table is None:
+        return None, None, 7
+    if len(log) > 16384 or len(tape) > 16384:
+        return None, None, 8
+    m = Machine(table)
+    if not 1 <= se.node <= n or se.log_len > len(log) or se.tape_len > len(tape):
+        return None, None, 9
+    if any(log[se.log_len:]) or any(tape[se.tape_len:]):
+        return None, None, 9
+    L = entries(m, list(reversed(log[:se.log_len])), False)
+    T = entries(m, list(reversed(tape[:se.tape_len])), True)
+    if L is None or T is None or len(L) != table[se.node - 1][4]:
+        return None, None, 9
+    return m, (se.node, se.dir, L, T), 0
+
+
+def call(w, n, se, log, tape, count, back):
+    """The session after it, the steps, the stop and the peak."""
+    m, s, number = given(w, n, se, log, tape)
+    if number:
+        return se, 0, 'refused %d' % number, 0
+    s, p, steps, stop, peak = wind(m, s, se.position, count, len(log), len(tape), back)
+    L, T = words(s[2]), words(s[3])
+    log[:] = lay(L, len(log))
+    tape[:] = lay(T, len(tape))
+    return Session(s[0], s[1], p, len(L), len(T)), steps, stop, peak
+
+
+def go_to(w, n, se, log, tape, q):
+    if se.position <= q:
+        return call(w, n, se, log, tape, q - se.position, False)
+    return call(w, n, se, log, tape, se.position - q, True)
+
+
+# ---- the program winder
+
+def winder(text):
+    n, number, table = read(text, 15000)
+    if number:
+        return ['refused %d' % number]
+    m, s, lines = Machine([table[5 * i:5 * i + 5] for i in range(n)]), START, []
+    for p in range(10001):
+        lines.append(' '.join(['%d' % p, '%d' % s[0], s[1], 'L'] + ['%d' % x for x in words(s[2])] + ['T'] + ['%d' % x for x in words(s[3])]))
+        s2, _, steps, stop, _ = wind(m, s, p, 1 if p < 10000 else 0, 1024, 1024, False)
+        if steps == 0:
+            return lines + [stop]
+        s = s2
+    raise AssertionError
+
+
+if __name__ == '__main__':
+    if sys.argv[1:] == ['winder']:
+        print('\n'.join(winder(sys.stdin.buffer.read())))
+    elif sys.argv[1:] == ['cases']:
+        from cases import lines
+        print('\n'.join(lines()))
+    else:
+        sys.exit(__doc__)
