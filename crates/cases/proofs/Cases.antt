@@ -2,17 +2,17 @@
 use mathlib.Core.Path.{_≡_, refl}
 use Rattle.term.specs.Table.{rowsOf, tableOf, tableIn, kindOf, placeUnder}
 use Rattle.term.specs.Accepted.{partBy, partAt, accepted}
-use Rattle.reader.specs.Bytes.{classOf}
-use Rattle.reader.specs.Tokens.{pieces}
-use Rattle.reader.specs.Parse.{phraseAt, parse}
-use Rattle.reader.specs.Binding.{indexOf, nameless}
-use Rattle.reader.specs.Reading.{meant, readerNumber, readOf}
+use Rattle.text.specs.Bytes.{classOf}
+use Rattle.text.specs.Tokens.{pieces}
+use Rattle.text.specs.Parse.{phraseAt, parse}
+use Rattle.text.specs.Binding.{indexOf, nameless}
+use Rattle.text.specs.Reading.{meant, readerNumber, readOf}
 use Rattle.machine.specs.Machine.{goDown, goUp, stepBy, afterFrom}
 use Rattle.machine.specs.Slice.{slice, putOnLog, readLog, putOnTape, readTape, allZero}
-use Rattle.session.specs.Stops.{stopAhead, stopBehind}
-use Rattle.session.specs.Winding.{wind}
-use Rattle.session.specs.Held.{wellFormed, stateIn}
-use Rattle.session.specs.Calls.{openNumber, callNumber, openOf, forwardOf, backOf, goToOf}
+use Rattle.calls.specs.Stops.{stopAhead, stopBehind}
+use Rattle.calls.specs.Winding.{wind}
+use Rattle.calls.specs.Held.{wellFormed, stateIn}
+use Rattle.calls.specs.Calls.{openNumber, callNumber, openOf, forwardOf, backOf, goToOf}
 use Rattle.cases.specs.Cases.{exampleText, identityText, openText, example, identity, fresh, next, stranded, states, withStates, cases, at, leaf, stands, results}
 
 pub cases-hold : cases ≡ results

@@ -4,11 +4,11 @@ use mathlib.Core.List.{List, [], _∷_}
 use Prim.Native.Nat.{ℕ, zero, suc}
 use lib.ListN.{replicate}
 use Rattle.term.specs.Table.{Table, tableIn}
-use Rattle.reader.specs.Reading.{Read, readOf}
+use Rattle.text.specs.Reading.{Read, readOf}
 use Rattle.machine.specs.Entries.{Entry, entry, Log, ε, _▸_, Item, bullet, held, Tape}
 use Rattle.machine.specs.Machine.{Dir, down, up, State, state, after}
-use Rattle.session.specs.Session.{Session, Stop, spent, jam, start, logFull, tapeFull, answer, stopped, Answer, Opening, Given}
-use Rattle.session.specs.Calls.{openOf, forwardOf, backOf, goToOf}
+use Rattle.calls.specs.Session.{Session, Stop, spent, jam, start, logFull, tapeFull, answer, stopped, Answer, Opening, Given}
+use Rattle.calls.specs.Calls.{openOf, forwardOf, backOf, goToOf}
 
 -- what a case shows: a reading, a call's answer with both slices, or the plain machine's state
 pub data Shown : Type 0 where

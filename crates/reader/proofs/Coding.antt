@@ -6,8 +6,8 @@ use native.Mathlib.Numerals.{add-one}
 use native.Mathlib.Omega.{arith}
 use lib.ListN.{length, take, set, replicate}
 use lib.Seq.{take-take, take-set-le, take-suc-set}
-use Rattle.reader.specs.Tokens.{Name}
-use Rattle.reader.specs.Grammar.{Tree, apply, Atoms, no-more, _and_, atomTree, applied}
+use Rattle.text.specs.Tokens.{Name}
+use Rattle.text.specs.Grammar.{Tree, apply, Atoms, no-more, _and_, atomTree, applied}
 use Rattle.reader.specs.Scanning.{nameAt, namesAt, treeCode}
 use Rattle.reader.specs.Answers.{atomCode, atomsCode, howMany, Place, place, around}
 use Rattle.reader.proofs.Scanning.{namesAt-snoc}

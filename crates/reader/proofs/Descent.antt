@@ -8,11 +8,11 @@ use native.Mathlib.Numerals.{add-one}
 use native.Mathlib.Omega.{arith}
 use lib.ListN.{length, set, replicate, length-append, length-replicate}
 use lib.Seq.{sets}
-use Rattle.reader.specs.Bytes.{lambda, dot, opening, closing}
-use Rattle.reader.specs.Tokens.{Name}
-use Rattle.reader.specs.Grammar.{abstraction, atoms, no-more, _and_, named, bracketed}
-use Rattle.reader.specs.Parse.{afterMark, nameFirst, startsAtom}
-use Rattle.reader.specs.Binding.{indexOf}
+use Rattle.text.specs.Bytes.{lambda, dot, opening, closing}
+use Rattle.text.specs.Tokens.{Name}
+use Rattle.text.specs.Grammar.{abstraction, atoms, no-more, _and_, named, bracketed}
+use Rattle.text.specs.Parse.{afterMark, nameFirst, startsAtom}
+use Rattle.text.specs.Binding.{indexOf}
 use Rattle.reader.specs.Scanning.{nameAt, variableWord, treeCode}
 use Rattle.reader.specs.Answers.{phraseFrom, atomsFrom, atomFrom, abstractionFrom, applicationFrom, bracketedFrom, phraseCode, atomCode, atomsCode, Place, place, ahead, around, ReadTo, Answer, RunTo, MarkTo, NameTo}
 use Rattle.reader.specs.declared.grammar.Got.{Got}

@@ -12,19 +12,19 @@ use borrow.Author.Tests.{lt-ltb, le-ltb}
 use Rattle.term.specs.Choice.{isNone}
 use Rattle.term.specs.Term.{Term, size}
 use Rattle.term.specs.Table.{tableOf}
-use Rattle.reader.specs.Tokens.{tokens}
-use Rattle.reader.specs.Grammar.{Tree, phraseTree}
-use Rattle.reader.specs.Parse.{isEmpty, parse}
-use Rattle.reader.specs.Binding.{nameless}
-use Rattle.reader.specs.Reading.{Read, refused}
+use Rattle.text.specs.Tokens.{tokens}
+use Rattle.text.specs.Grammar.{Tree, phraseTree}
+use Rattle.text.specs.Parse.{isEmpty, parse}
+use Rattle.text.specs.Binding.{nameless}
+use Rattle.text.specs.Reading.{Read, refused}
 use Rattle.reader.specs.Scanning.{gapRun, namesAt, treeCode}
 use Rattle.reader.specs.Answers.{place, ReadTo, phraseFrom, phraseCode}
 use Rattle.reader.specs.Layout.{Whole, anyZero}
 use Rattle.reader.specs.Steps.{InCode, CodedTo, answerFor}
-use Rattle.reader.proofs.Tokens.{tokens-nil, tokens-mark}
-use Rattle.reader.proofs.Parse.{parse-exactly}
-use Rattle.reader.proofs.Size.{few-nodes, size-nodes}
-use Rattle.reader.proofs.Binding.{nameless-closed}
+use Rattle.text.proofs.Tokens.{tokens-nil, tokens-mark}
+use Rattle.text.proofs.Parse.{parse-exactly}
+use Rattle.text.proofs.Size.{few-nodes, size-nodes}
+use Rattle.text.proofs.Binding.{nameless-closed}
 use Rattle.reader.proofs.Scanning.{skip-tokens, no-gap, FirstToken, first-token, name-tokens}
 use Rattle.reader.proofs.Nameless.{tree-code-length, nameless-code, zero-unbound}
 

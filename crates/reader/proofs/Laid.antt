@@ -7,7 +7,7 @@ use native.Mathlib.Numerals.{add-one}
 use native.Mathlib.Omega.{arith}
 use lib.ListN.{length, getD, set, drop, length-set}
 use lib.Seq.{sets, sets-eq, length-sets, getD-set-same, getD-set-other}
-use Rattle.term.specs.Term.{Term, var, lam, app, size}
+use Rattle.term.specs.Term.{Term, lam, size}
 use Rattle.term.specs.Table.{row, rowsOf, tableOf}
 use Rattle.term.specs.Accepted.{mostNodes}
 use Rattle.term.proofs.Rows.{rows-length}

@@ -1,13 +1,4 @@
--- The laws of the reader's definitions.
-pub mod Each
-pub mod Tokens
-pub mod Spelt
-pub mod Steady
-pub mod Parse
-pub mod Binding
-pub mod Size
-pub mod Exactly
-pub mod Accepted
+-- The laws that the proofs of the reader's functions cite.
 pub mod Runs
 pub mod Scanning
 pub mod Refusing

@@ -13,13 +13,13 @@ use borrow.Author.Tests.{eq-eqb, ne-eqb}
 use Rattle.term.specs.Choice.{_>>=_, isNone}
 use Rattle.term.specs.Term.{Term, var, lam, app}
 use Rattle.term.specs.Code.{codeOf}
-use Rattle.reader.specs.Tokens.{Name}
-use Rattle.reader.specs.Grammar.{Tree, variable, binder, apply}
-use Rattle.reader.specs.Binding.{indexOf, nameless}
+use Rattle.text.specs.Tokens.{Name}
+use Rattle.text.specs.Grammar.{Tree, variable, binder, apply}
+use Rattle.text.specs.Binding.{indexOf, nameless}
 use Rattle.reader.specs.Scanning.{variableWord, treeCode}
 use Rattle.reader.specs.Layout.{anyZero}
-use Rattle.reader.proofs.Each.{Each, each-bind}
-use Rattle.reader.proofs.Size.{nodes}
+use Rattle.text.proofs.Each.{Each, each-bind}
+use Rattle.text.proofs.Size.{nodes}
 
 -- a word for each node
 pub tree-code-length : (t : Tree) (around : List Name) → length (treeCode t around) ≡ nodes t

@@ -11,8 +11,8 @@ use lib.Seq.{drop-cons, take-suc, getD-take, getD-drop}
 use lib.Dec.{eqb}
 use borrow.Author.Tests.{eq-eqb, ne-eqb}
 use Rattle.term.specs.Choice.{_>>=_}
-use Rattle.reader.specs.Tokens.{Name}
-use Rattle.reader.specs.Binding.{sameName, indexOf}
+use Rattle.text.specs.Tokens.{Name}
+use Rattle.text.specs.Binding.{sameName, indexOf}
 use Rattle.reader.specs.Scanning.{nameRun, nameAt, namesAt, variableWord}
 use Rattle.reader.proofs.Scanning.{name-length, namesAt-snoc}
 

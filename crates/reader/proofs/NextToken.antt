@@ -11,12 +11,12 @@ use lib.ListN.{length, drop, getD, length-drop}
 use lib.Seq.{drop-drop, getD-drop}
 use lib.Dec.{eqb}
 use borrow.Author.Tests.{eq-eqb, ne-eqb}
-use Rattle.reader.specs.Bytes.{sign, classOf, inName, opening}
-use Rattle.reader.specs.Tokens.{tokens}
-use Rattle.reader.specs.Parse.{afterMark, nameFirst, startsAtom}
+use Rattle.text.specs.Bytes.{sign, classOf, inName, opening}
+use Rattle.text.specs.Tokens.{tokens}
+use Rattle.text.specs.Parse.{afterMark, nameFirst, startsAtom}
 use Rattle.reader.specs.Scanning.{nameRun, gapRun}
 use Rattle.reader.specs.Answers.{ahead, MarkTo, NameTo}
-use Rattle.reader.proofs.Tokens.{tokens-nil, tokens-mark}
+use Rattle.text.proofs.Tokens.{tokens-nil, tokens-mark}
 use Rattle.reader.proofs.Scanning.{gap-fits, name-fits, skip-tokens, no-gap, name-tokens, first-token}
 
 -- A text that begins with no gap: its first token, by its first byte or its first name.

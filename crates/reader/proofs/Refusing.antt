@@ -8,11 +8,11 @@ use native.Mathlib.Omega.{arith}
 use lib.ListN.{length, getD, take, drop, drop-of-length-le, length-drop}
 use lib.Seq.{drop-cons, drop-drop, length-take-le}
 use borrow.Author.Tests.{lt-ltb, le-ltb}
-use Rattle.reader.specs.Bytes.{Class, letter, digit, blank, sign, foreign, classOf, isForeign, isDigit, inName}
-use Rattle.reader.specs.Tokens.{Piece, putByte, pieces, tokensOf, tokens, isBadName, anyBadName}
-use Rattle.reader.specs.Reading.{anyForeign}
+use Rattle.text.specs.Bytes.{Class, letter, digit, blank, sign, foreign, classOf, isForeign, isDigit, inName}
+use Rattle.text.specs.Tokens.{Piece, putByte, pieces, tokensOf, tokens, isBadName, anyBadName}
+use Rattle.text.specs.Reading.{anyForeign}
 use Rattle.reader.specs.Scanning.{nameRun}
-use Rattle.reader.proofs.Tokens.{tokens-nil}
+use Rattle.text.proofs.Tokens.{tokens-nil}
 use Rattle.reader.proofs.Scanning.{name-tokens, no-name-ends}
 
 -- Past the end nothing is refused.

@@ -7,7 +7,7 @@ use native.Mathlib.Numerals.{add-one}
 use native.Mathlib.Omega.{arith}
 use lib.ListN.{length, getD, drop, drop-of-length-le}
 use lib.Seq.{drop-cons}
-use Rattle.reader.specs.Bytes.{Class, classOf, inName}
+use Rattle.text.specs.Bytes.{Class, classOf, inName}
 use Rattle.reader.specs.Scanning.{inGap, nameRun, gapRun}
 
 pub record IsRun (kind : Class → Bool) (run : List ℕ → ℕ) : Type 0 where

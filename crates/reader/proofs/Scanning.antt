@@ -6,10 +6,10 @@ use mathlib.Core.List.{List, [], _∷_, _++_}
 use Prim.Native.Nat.{ℕ, suc, _-_, _≤_}
 use native.Mathlib.Omega.{arith}
 use lib.ListN.{length, take, drop, take-append-drop, length-take, length-drop}
-use Rattle.reader.specs.Bytes.{Class, letter, digit, blank, sign, foreign, classOf, inName}
-use Rattle.reader.specs.Tokens.{Name, name, Piece, putByte, pieces, tokensOf, tokens, AllInName}
+use Rattle.text.specs.Bytes.{Class, letter, digit, blank, sign, foreign, classOf, inName}
+use Rattle.text.specs.Tokens.{Name, name, Piece, putByte, pieces, tokensOf, tokens, AllInName}
 use Rattle.reader.specs.Scanning.{inGap, nameRun, gapRun, nameAt, namesAt}
-use Rattle.reader.proofs.Tokens.{Ends, tokens-nil, tokens-name}
+use Rattle.text.proofs.Tokens.{Ends, tokens-nil, tokens-name}
 use Rattle.reader.proofs.Runs.{name-run, gap-run, run-fits, run-first, run-done}
 
 -- A run is within its text.

@@ -10,11 +10,11 @@ use lib.Dec.{ltb}
 use borrow.Author.Tests.{ltb-false}
 use Rattle.term.specs.Choice.{Test, _⇒_, first, isNone}
 use Rattle.term.specs.Term.{Term, size}
-use Rattle.reader.specs.Tokens.{tokens, anyBadName}
-use Rattle.reader.specs.Grammar.{Phrase, phraseTree}
-use Rattle.reader.specs.Parse.{parse}
-use Rattle.reader.specs.Binding.{nameless}
-use Rattle.reader.specs.Reading.{mostBytes, anyForeign, meant, tooShort, readerNumber, refused, laidOut, answer, readOf}
+use Rattle.text.specs.Tokens.{tokens, anyBadName}
+use Rattle.text.specs.Grammar.{Phrase, phraseTree}
+use Rattle.text.specs.Parse.{parse}
+use Rattle.text.specs.Binding.{nameless}
+use Rattle.text.specs.Reading.{mostBytes, anyForeign, meant, tooShort, readerNumber, refused, laidOut, answer, readOf}
 use Rattle.reader.specs.Steps.{spellingNumber, answerFor}
 
 -- Numbers 1 to 3: they come first, and where none of them applies the others are left.

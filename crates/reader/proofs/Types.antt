@@ -3,7 +3,6 @@ use mathlib.Core.Path.{_≡_, ap}
 use mathlib.Core.List.{List}
 use Prim.Native.Nat.{ℕ}
 use Rattle.reader.specs.declared.Reading.{Reading}
-use Rattle.reader.specs.Reading.{Read}
 use Rattle.reader.specs.Types.{readMeant}
 
 pub read-meant-injective : (r s : Reading) (a b : List ℕ) → readMeant r a ≡ readMeant s b → (r ≡ s) × (a ≡ b)

@@ -7,14 +7,14 @@ use native.Mathlib.Nat.{le-refl}
 use native.Mathlib.Omega.{arith}
 use lib.ListN.{length}
 use Rattle.term.specs.Choice.{_>>=_, choose, ifSome}
-use Rattle.reader.specs.Bytes.{lambda, dot, opening}
-use Rattle.reader.specs.Tokens.{Token, mark}
-use Rattle.reader.specs.Grammar.{no-more, named, atomTokens}
-use Rattle.reader.specs.Parse.{parsed, afterMark, nameFirst, startsAtom, phraseAt, atomsAt, atomAt}
+use Rattle.text.specs.Bytes.{lambda, dot, opening}
+use Rattle.text.specs.Tokens.{Token, mark}
+use Rattle.text.specs.Grammar.{no-more, named, atomTokens}
+use Rattle.text.specs.Parse.{parsed, afterMark, nameFirst, startsAtom, phraseAt, atomsAt, atomAt}
 use Rattle.reader.specs.Answers.{phraseFrom, atomsFrom, atomFrom, abstractionFrom, applicationFrom, moreFrom, bracketedFrom}
-use Rattle.reader.proofs.Each.{Each, bind-same, bind-steady, bind-ap, if-same, choose-same}
-use Rattle.reader.proofs.Spelt.{Spelt, nameTokens, after-spelt, name-spelt, atom-spelt, atom-shorter}
-use Rattle.reader.proofs.Steady.{phrase-steady, atoms-steady, atom-steady}
+use Rattle.text.proofs.Each.{Each, bind-same, bind-steady, bind-ap, if-same, choose-same}
+use Rattle.text.proofs.Spelt.{Spelt, nameTokens, after-spelt, name-spelt, atom-spelt, atom-shorter}
+use Rattle.text.proofs.Steady.{phrase-steady, atoms-steady, atom-steady}
 
 -- deep enough is as deep as they need
 phrase-deep : (f : ℕ) (ts : List Token) → 3 * length ts + 3 ≤ f → phraseAt f ts ≡ phraseFrom ts

@@ -6,10 +6,10 @@ use Prim.Native.Nat.{ℕ, suc, _+_, _*_, _-_, _≤_, _<_}
 use lib.ListN.{length, take, drop}
 use lib.Seq.{sets}
 use Rattle.term.specs.Choice.{_>>=_}
-use Rattle.reader.specs.Bytes.{dot, closing}
-use Rattle.reader.specs.Tokens.{Name, Token, tokens}
-use Rattle.reader.specs.Grammar.{Phrase, abstraction, atoms, Atoms, no-more, _and_, Atom, bracketed, phraseTree, atomTree}
-use Rattle.reader.specs.Parse.{Parsed, parsed, afterMark, nameFirst, phraseAt, atomsAt, atomAt}
+use Rattle.text.specs.Bytes.{dot, closing}
+use Rattle.text.specs.Tokens.{Name, Token, tokens}
+use Rattle.text.specs.Grammar.{Phrase, abstraction, atoms, Atoms, no-more, _and_, Atom, bracketed, phraseTree, atomTree}
+use Rattle.text.specs.Parse.{Parsed, parsed, afterMark, nameFirst, phraseAt, atomsAt, atomAt}
 use Rattle.reader.specs.Scanning.{nameAt, namesAt, treeCode}
 use Rattle.reader.specs.declared.token.After.{After}
 use Rattle.reader.specs.declared.token.After.the-variants.{Mark, NoMark}

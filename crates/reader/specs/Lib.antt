@@ -1,10 +1,3 @@
-pub mod Bytes
-pub mod Tokens
-pub mod Grammar
-pub mod Parse
-pub mod Binding
-pub mod Reading
-pub mod Exactly
 pub mod Scanning
 pub mod Types
 pub mod Layout

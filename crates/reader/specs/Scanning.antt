@@ -4,10 +4,10 @@ use mathlib.Core.Option.{Option, none, some}
 use mathlib.Core.List.{List, [], _∷_, _++_}
 use Prim.Native.Nat.{ℕ, zero, suc, _+_}
 use lib.ListN.{take, drop, getD}
-use Rattle.reader.specs.Bytes.{Class, letter, digit, blank, sign, foreign, classOf, inName}
-use Rattle.reader.specs.Tokens.{Name}
-use Rattle.reader.specs.Grammar.{Tree, variable, binder, apply}
-use Rattle.reader.specs.Binding.{indexOf}
+use Rattle.text.specs.Bytes.{Class, letter, digit, blank, sign, foreign, classOf, inName}
+use Rattle.text.specs.Tokens.{Name}
+use Rattle.text.specs.Grammar.{Tree, variable, binder, apply}
+use Rattle.text.specs.Binding.{indexOf}
 
 -- neither a byte of a name nor a sign
 abbrev pub inGap : Class → Bool

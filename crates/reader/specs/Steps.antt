@@ -9,10 +9,10 @@ use lib.Dec.{ltb}
 use Rattle.term.specs.Choice.{_⇒_, first}
 use Rattle.term.specs.Term.{Term, size}
 use Rattle.term.specs.Accepted.{mostNodes}
-use Rattle.reader.specs.Tokens.{tokens, anyBadName}
-use Rattle.reader.specs.Grammar.{Phrase, Tree, phraseTree}
-use Rattle.reader.specs.Parse.{parse}
-use Rattle.reader.specs.Reading.{Read, mostBytes, anyForeign, refused, laidOut}
+use Rattle.text.specs.Tokens.{tokens, anyBadName}
+use Rattle.text.specs.Grammar.{Phrase, Tree, phraseTree}
+use Rattle.text.specs.Parse.{parse}
+use Rattle.text.specs.Reading.{Read, mostBytes, anyForeign, refused, laidOut}
 use Rattle.reader.specs.Scanning.{treeCode}
 use Rattle.reader.specs.declared.Coded.{Coded}
 use Rattle.reader.specs.declared.Coded.the-variants.{Words, NoTerm}

@@ -1,9 +1,8 @@
 -- The declared types of the reader as the definitions' own.
-use mathlib.Core.Bool.{Bool}
 use mathlib.Core.List.{List}
 use Prim.Native.Nat.{ℕ}
-use Rattle.reader.specs.Bytes
-use Rattle.reader.specs.Reading.{Read}
+use Rattle.text.specs.Bytes
+use Rattle.text.specs.Reading.{Read}
 use Rattle.reader.specs.declared.bytes.Class.{Class}
 use Rattle.reader.specs.declared.bytes.Class.the-variants.{Letter, Digit, Blank, Sign, Foreign}
 use Rattle.reader.specs.declared.Reading.{Reading}

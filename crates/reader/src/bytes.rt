@@ -2,7 +2,7 @@
 ghost use mathlib.Core.Path.{_≡_};
 ghost use Prim.Native.Nat.{_≤_, _*_, _-_};
 ghost use lib.ListN.{length, getD};
-ghost use Rattle.reader.specs.Bytes.{classOf};
+ghost use Rattle.text.specs.Bytes.{classOf};
 ghost use Rattle.reader.specs.Types.{classMeant};
 
 pub(crate) enum Class {

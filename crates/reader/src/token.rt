@@ -2,8 +2,8 @@
 ghost use mathlib.Core.Path.{_≡_};
 ghost use Prim.Native.Nat.{_≤_};
 ghost use lib.ListN.{length};
-ghost use Rattle.reader.specs.Bytes.{sign, classOf};
-ghost use Rattle.reader.specs.Parse.{startsAtom};
+ghost use Rattle.text.specs.Bytes.{sign, classOf};
+ghost use Rattle.text.specs.Parse.{startsAtom};
 ghost use Rattle.reader.specs.Answers.{ahead, AfterIs, FirstIs};
 use crate::bytes::byte;
 use crate::scan::in_name;

@@ -1,17 +1,23 @@
--- The count of a slice's words is the count of what is read out of them.
+-- The count of a slice's words is the count of what is read out of them, and number 9 goes by the counts.
 use mathlib.Core.Path.{_≡_, refl, sym, ap, _∙_}
-use mathlib.Core.Bool.{Bool, true, false, cond}
+use mathlib.Core.Bool.{Bool, true, false, _&&_, not, cond, and-false}
 use mathlib.Core.Option.{Option, none, some, Option·map}
 use mathlib.Core.List.{List, [], _∷_}
-use Prim.Native.Nat.{ℕ, zero, suc, _+_, _-_, _≤_}
+use Prim.Native.Nat.{ℕ, zero, suc, _+_, _-_, _≤_, _<_}
 use native.Mathlib.Nat.{sub-zero, suc-sub-suc, le-of-suc-le-suc, not-suc-le-zero}
 use native.Mathlib.Numerals.{add-one}
-use Rattle.term.specs.Choice.{_>>=_}
+use lib.ListN.{length, take, drop}
+use lib.Dec.{eqb}
+use borrow.Author.Tests.{le-leb, lt-leb}
+use Rattle.term.specs.Choice.{_>>=_, isNone, choose, ifSome}
 use Rattle.term.specs.Table.{Table, arity}
-use Rattle.machine.specs.Entries.{entry, Log, _▸_, howMany, top, rest, bullet, held, Tape}
-use Rattle.machine.specs.Slice.{makesEntry, putOnLog, readLog, heldOn, under, putOnTape, readTape}
+use Rattle.machine.specs.Entries.{entry, Log, ε, _▸_, howMany, top, rest, bullet, held, Tape}
+use Rattle.machine.specs.Machine.{state}
+use Rattle.machine.specs.Slice.{makesEntry, putOnLog, readLog, heldOn, under, putOnTape, readTape, allZero}
 use Rattle.machine.proofs.Logs.{howMany-rest}
 use Rattle.machine.proofs.Tests.{entry-made}
+use Rattle.calls.specs.Session.{Session}
+use Rattle.calls.specs.Held.{wellFormed, stateIn}
 use Rattle.session.specs.Counting.{countEntry, haveLog, countItem, haveTape}
 
 -- counted at each word, counted at the end
@@ -65,3 +71,71 @@ module _ (T : Table) where
   tape-counted (v ∷ ws) t =
       ap (λ o. o >>= λ k. haveTape T ws k) (item-counted v t)
       ∙ counted-on (λ u. heldMany u) (putOnTape T v t) (λ u. readTape T ws u) (λ k. haveTape T ws k) (λ u. tape-counted ws u)
+
+-- Number 9 by the counts: the log's is the node's level, and the tape has one.
+abbrev pub logCounts : Table → Session → List ℕ → Bool
+logCounts T se ls = ifSome (haveLog T (take (se .logLength) ls) 0) (λ k. eqb k (T .level (se .node))) (λ _. false)
+
+abbrev pub tapeCounts : Table → Session → List ℕ → Bool
+tapeCounts T se ts = not (isNone (haveTape T (take (se .tapeLength) ts) 0))
+
+there-if : {A : Type 0} (b : Bool) (o : Option A) {c : Bool} → not (isNone o) ≡ c → not (isNone (choose b (λ _. o) (λ _. none))) ≡ (b && c)
+there-if true o e = e
+there-if false o e = refl
+
+module _ (T : Table) (se : Session) (ls ts : List ℕ) where
+  read-there : (o : Option Log) (q : Option Tape)
+      → not (isNone (o >>= λ L. q >>= λ t. cond (eqb (howMany L) (T .level (se .node))) (some (state (se .node) (se .dir) L t)) none))
+      ≡ (ifSome (Option·map howMany o) (λ k. eqb k (T .level (se .node))) (λ _. false) && not (isNone (Option·map (λ u. heldMany u) q)))
+  read-there none q = refl
+  read-there (some L) none = sym (and-false (eqb (howMany L) (T .level (se .node))))
+  read-there (some L) (some t) = by-level (eqb (howMany L) (T .level (se .node)))
+    where
+      by-level : (c : Bool) → not (isNone (cond c (some (state (se .node) (se .dir) L t)) none)) ≡ (c && true)
+      by-level true = refl
+      by-level false = refl
+
+  -- whether the session and its slices hold a state
+  pub state-counted : not (isNone (stateIn T se ls ts)) ≡ (wellFormed T se ls ts && (logCounts T se ls && tapeCounts T se ts))
+  unfolding stateIn
+  state-counted =
+      there-if (wellFormed T se ls ts) _
+      (read-there (readLog T (take (se .logLength) ls) ε) (readTape T (take (se .tapeLength) ts) [])
+      ∙ sym (rw (log-counted T (take (se .logLength) ls) ε, tape-counted T (take (se .tapeLength) ts) [])))
+
+  -- each test that fails leaves none
+  pub no-node : se .node < 1 → false ≡ not (isNone (stateIn T se ls ts))
+  unfolding wellFormed
+  no-node h = sym (state-counted ∙ simp (lt-leb 1 (se .node) h))
+
+  pub past-nodes : T .nodes < se .node → false ≡ not (isNone (stateIn T se ls ts))
+  unfolding wellFormed
+  past-nodes h = sym (state-counted ∙ simp (lt-leb (se .node) (T .nodes) h, and-false))
+
+  pub log-over : length ls < se .logLength → false ≡ not (isNone (stateIn T se ls ts))
+  unfolding wellFormed
+  log-over h = sym (state-counted ∙ simp (lt-leb (se .logLength) (length ls) h, and-false))
+
+  pub tape-over : length ts < se .tapeLength → false ≡ not (isNone (stateIn T se ls ts))
+  unfolding wellFormed
+  tape-over h = sym (state-counted ∙ simp (lt-leb (se .tapeLength) (length ts) h, and-false))
+
+  pub log-dirty : allZero (drop (se .logLength) ls) ≡ false → false ≡ not (isNone (stateIn T se ls ts))
+  unfolding wellFormed
+  log-dirty h = sym (state-counted ∙ simp (h, and-false))
+
+  pub tape-dirty : allZero (drop (se .tapeLength) ts) ≡ false → false ≡ not (isNone (stateIn T se ls ts))
+  unfolding wellFormed
+  tape-dirty h = sym (state-counted ∙ simp (h, and-false))
+
+  pub log-miscounted : logCounts T se ls ≡ false → false ≡ not (isNone (stateIn T se ls ts))
+  log-miscounted h = sym (state-counted ∙ simp (h, and-false))
+
+  -- where they all hold, the tape's count decides
+  pub tape-decides : 1 ≤ se .node → se .node ≤ T .nodes → se .logLength ≤ length ls → se .tapeLength ≤ length ts
+      → allZero (drop (se .logLength) ls) ≡ true → allZero (drop (se .tapeLength) ts) ≡ true → logCounts T se ls ≡ true
+      → tapeCounts T se ts ≡ not (isNone (stateIn T se ls ts))
+  unfolding wellFormed
+  tape-decides a b c d e f g =
+      sym (state-counted
+      ∙ simp (le-leb 1 (se .node) a, le-leb (se .node) (T .nodes) b, le-leb (se .logLength) (length ls) c, le-leb (se .tapeLength) (length ts) d, e, f, g))

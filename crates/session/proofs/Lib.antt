@@ -1,10 +1,16 @@
--- The theorems of a session: which states are held, which call is refused, how the calls wind, and the third demand.
-pub mod Held
-pub mod Unrefused
+-- The laws that the proofs of the session's functions cite.
+pub mod Types
 pub mod Counting
-pub mod Stops
-pub mod Runs
-pub mod Answers
-pub mod Third
-pub mod RoundTrip
-pub mod Peaks
+pub mod Numbers
+pub mod Words
+pub mod Slices
+pub mod Landed
+pub mod Bullets
+pub mod Carried
+pub mod Carries
+pub mod TopWord
+pub mod Chosen
+pub mod Anew
+pub mod Turns
+pub mod Loops
+pub mod Calls

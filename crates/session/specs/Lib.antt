@@ -1,7 +1,6 @@
-pub mod Session
-pub mod Stops
-pub mod Winding
-pub mod Held
+pub mod Types
 pub mod Counting
-pub mod Calls
-pub mod Demand
+pub mod Steps
+pub mod Rules
+pub mod Anew
+pub mod Ways

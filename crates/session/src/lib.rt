@@ -1,0 +1,173 @@
+// Sessions on a term: open, forward, back and go-to (document 01, "A session and its calls").
+ghost use mathlib.Core.Path.{_≡_};
+ghost use mathlib.Core.List.{List};
+ghost use Prim.Native.Nat.{ℕ};
+ghost use lib.ListN.{length, replicate};
+ghost use Rattle.calls.specs.Calls.{openOf, refusal, forwardOf, backOf, goToOf};
+ghost use Rattle.session.specs.Types.{opened, answered, lent};
+ghost use Rattle.session.specs.Ways.{callBy};
+
+mod check;
+mod choice;
+mod extent;
+mod mover;
+mod rules;
+mod winding;
+
+use check::call_number;
+use winding::Way;
+use winding::wind;
+
+pub enum Dir {
+    Down,
+    Up,
+}
+
+pub struct Session {
+    pub node: u32,
+    pub dir: Dir,
+    pub position: u32,
+    pub log_len: u32,
+    pub tape_len: u32,
+}
+
+pub enum Stop {
+    Spent,
+    Answer(u32),
+    Jam,
+    Far,
+    Start,
+    LogFull,
+    TapeFull,
+    Refused(u32),
+}
+
+pub struct Opening {
+    pub session: Session,
+    pub refusal: u32,
+}
+
+pub struct Outcome {
+    pub session: Session,
+    pub steps: u32,
+    pub stop: Stop,
+    pub peak: u32,
+}
+
+// Writes 0 over every word.
+fn clear(words: &mut [u32])
+    ensures { λ _. ⌜ now (words .exit) ≡ replicate (length (now (words .entry))) 0 ⌝ }
+{
+    let mut i: usize = 0;
+    while i < words.len() {
+        words[i] = 0;
+        i += 1;
+    }
+}
+
+// Open: the start state at position 0, and both slices zeroed; or refused, with no word written.
+pub fn open(table: &[u32], n: u32, log: &mut [u32], tape: &mut [u32]) -> Opening
+    ensures { λ r. ⌜ opened r (now (log .exit)) (now (tape .exit)) ≡ openOf (now (table .entry)) n (now (log .entry)) (now (tape .entry)) ⌝ }
+{
+    let refusal = check::open_number(table, n, &log[..], &tape[..]);
+    if refusal != 0 {
+        return Opening {
+            session: Session {
+                node: 0,
+                dir: Dir::Down,
+                position: 0,
+                log_len: 0,
+                tape_len: 0,
+            },
+            refusal: refusal,
+        };
+    }
+    clear(log);
+    clear(tape);
+    Opening {
+        session: Session {
+            node: 1,
+            dir: Dir::Down,
+            position: 0,
+            log_len: 0,
+            tape_len: 0,
+        },
+        refusal: 0,
+    }
+}
+
+// Number k instead of a stop: the session given, and nothing done.
+fn refused(session: Session, k: u32) -> Outcome
+    ensures { λ r. ⌜ ((w : List ℕ) (n : ℕ) (ls ts : List ℕ) → answered r ls ts ≡ refusal k (lent w n session ls ts)) ⌝ }
+{
+    Outcome {
+        session: session,
+        steps: 0,
+        stop: Stop::Refused(k),
+        peak: 0,
+    }
+}
+
+// A call by a count, forward or back.
+fn call(
+    table: &[u32],
+    n: u32,
+    session: Session,
+    log: &mut [u32],
+    tape: &mut [u32],
+    way: Way,
+    count: u32,
+) -> Outcome
+    ensures { λ r. ⌜ answered r (now (log .exit)) (now (tape .exit)) ≡ callBy way (lent (now (table .entry)) n session (now (log .entry)) (now (tape .entry))) count ⌝ }
+{
+    let k = call_number(table, n, session, &log[..], &tape[..]);
+    if k != 0 {
+        return refused(session, k);
+    }
+    wind(table, n, session, log, tape, way, count)
+}
+
+pub fn forward(
+    table: &[u32],
+    n: u32,
+    session: Session,
+    log: &mut [u32],
+    tape: &mut [u32],
+    count: u32,
+) -> Outcome
+    ensures { λ r. ⌜ answered r (now (log .exit)) (now (tape .exit)) ≡ forwardOf (lent (now (table .entry)) n session (now (log .entry)) (now (tape .entry))) count ⌝ }
+{
+    call(table, n, session, log, tape, Way::Forward, count)
+}
+
+pub fn back(
+    table: &[u32],
+    n: u32,
+    session: Session,
+    log: &mut [u32],
+    tape: &mut [u32],
+    count: u32,
+) -> Outcome
+    ensures { λ r. ⌜ answered r (now (log .exit)) (now (tape .exit)) ≡ backOf (lent (now (table .entry)) n session (now (log .entry)) (now (tape .entry))) count ⌝ }
+{
+    call(table, n, session, log, tape, Way::Back, count)
+}
+
+// Forward or back by the difference.
+pub fn go_to(
+    table: &[u32],
+    n: u32,
+    session: Session,
+    log: &mut [u32],
+    tape: &mut [u32],
+    position: u32,
+) -> Outcome
+    ensures { λ r. ⌜ answered r (now (log .exit)) (now (tape .exit)) ≡ goToOf (lent (now (table .entry)) n session (now (log .entry)) (now (tape .entry))) position ⌝ }
+{
+    let here = session.position;
+    if here <= position {
+        forward(table, n, session, log, tape, position - here)
+    } else {
+        back(table, n, session, log, tape, here - position)
+    }
+}

@@ -1,5 +1,6 @@
 -- `code_of` writes the code of what the text spells, if it is a term.
 use Rattle.reader.proofs.Encoded.{text-not, text-left, text-coded}
+use native.Mathlib.Omega.{arith}
 use borrow.Author.Needs.{needs}
 use Rattle.reader.proofs.code_of.Statement.{statement}
 use Rattle.reader.proofs.code_of.Tie as tie
@@ -24,16 +25,18 @@ same-length c = search needs
 
 returns : tie.Need-returns
 returns c =
+    let s = c .before .before .before .before .before .before .before .before .before .before .before .before .before in
     let g = rw (c .before .before .before .got .given .1) at (c .before .before .before .before .before .before .before .before .term .ensures) in
-    text-left (c .before .before .before .before .before .before .before .before .before .before .before .before .before .args .text .now) _ _ _ _ _ _ _ g (c .before .skip .ensures) (c .if1 .taken)
+    text-left (s .args .text .now) _ _ _ _ _ _ _ g (c .before .skip .ensures) (omega arith)
 
 same-length-2 : tie.Need-same-length-2
 same-length-2 c = search needs
 
 returns-2 : tie.Need-returns-2
 returns-2 c =
+    let s = c .before .before .before .before .before .before .before .before .before .before .before .before .before in
     let g = rw (c .before .before .before .got .given .1) at (c .before .before .before .before .before .before .before .before .term .ensures) in
-    text-coded (c .before .before .before .before .before .before .before .before .before .before .before .before .before .args .text .now) _ (c .before .before .before .before .before .before .before .before .before .before .before .before .before .args .code .now) _ _ _ _ _ g (c .before .skip .ensures) (c .if1 .left) (c .before .before .before .before .before .before .before .before .before .before .before .before .before .pre .0) (c .before .before .before .before .before .before .before .before .before .before .before .before .before .pre .1)
+    text-coded (s .args .text .now) _ (s .args .code .now) _ _ _ _ _ g (c .before .skip .ensures) (omega arith) (s .pre .0) (s .pre .1)
 
 same-length-3 : tie.Need-same-length-3
 same-length-3 c = search needs

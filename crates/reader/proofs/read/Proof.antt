@@ -1,7 +1,7 @@
 -- `read` answers what the definition of reading answers, and leaves what it leaves.
 use mathlib.Core.Path.{sym, ap, _∙_}
 use native.Mathlib.Omega.{arith}
-use Rattle.reader.specs.Grammar.{phraseTree}
+use Rattle.text.specs.Grammar.{phraseTree}
 use Rattle.reader.specs.Types.{readMeant}
 use Rattle.reader.proofs.Steps.{misspelled, few-bytes, no-term, a-phrase}
 use borrow.Author.Needs.{needs}

@@ -2,7 +2,7 @@
 use mathlib.Core.Path.{sym, _∙_}
 use borrow.Author.Tests.{lt-ltb, le-ltb}
 use lib.ListN.{length}
-use Rattle.reader.specs.Reading.{mostBytes}
+use Rattle.text.specs.Reading.{mostBytes}
 use Rattle.reader.specs.Steps.{spellingNumber}
 use borrow.Author.Needs.{needs}
 use Rattle.reader.proofs.spelling_number.Statement.{statement}

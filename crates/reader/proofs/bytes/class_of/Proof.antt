@@ -6,7 +6,7 @@ use Prim.Native.Nat.{ℕ, _≤_, _<_}
 use native.Mathlib.Omega.{arith}
 use lib.Dec.{leb, eqb}
 use borrow.Author.Tests.{le-leb, lt-leb, ne-eqb, eqb-true, eqb-false}
-use Rattle.reader.specs.Bytes.{letter, digit, sign, foreign, classOf}
+use Rattle.text.specs.Bytes.{letter, digit, sign, foreign, classOf}
 use Rattle.reader.proofs.bytes.class_of.Statement.{statement}
 use Rattle.reader.proofs.bytes.class_of.Tie as tie
 

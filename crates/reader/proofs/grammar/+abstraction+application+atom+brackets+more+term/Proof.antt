@@ -6,7 +6,7 @@ use native.Mathlib.Omega.{arith}
 use borrow.Author.Needs.{needs}
 use borrow.Fn.Kinds.{In}
 use borrow.Fn.PlainCycle.{Measures, is, falls, and}
-use Rattle.reader.specs.Bytes.{classOf}
+use Rattle.text.specs.Bytes.{classOf}
 use Rattle.reader.specs.Answers.{Place, place}
 use Rattle.reader.proofs.Descent.{term-abstraction, term-application, abstraction-body, abstraction-no-dot, abstraction-no-name, atom-name, atom-brackets, atom-none, brackets-closed, brackets-open, brackets-none, more-stops, more-none, more-bad, more-done, application-none, application-bad, application-done}
 use Rattle.reader.proofs.grammar.abstraction.Reads as abstraction

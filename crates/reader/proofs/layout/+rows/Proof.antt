@@ -1,6 +1,6 @@
 -- `rows` lays out every part that is ready. Its measure is the words of the code that are left.
 use Prim.Native.Nat.{ℕ, _<_, _-_}
-use mathlib.Core.Path.{sym, _∙_}
+use mathlib.Core.Path.{_∙_}
 use native.Mathlib.Omega.{arith}
 use lib.ListN.{length, length-set}
 use Rattle.reader.proofs.Parts.{Enough, enough, ready-as, body-ready, parts-ready, index-ready}

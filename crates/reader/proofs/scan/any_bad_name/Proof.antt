@@ -4,7 +4,7 @@ use Prim.Native.Nat.{_-_}
 use native.Mathlib.Omega.{arith}
 use borrow.Author.Needs.{needs}
 use lib.ListN.{length, drop, length-drop}
-use Rattle.reader.specs.Tokens.{tokens, anyBadName}
+use Rattle.text.specs.Tokens.{tokens, anyBadName}
 use Rattle.reader.proofs.Scanning.{name-fits}
 use Rattle.reader.proofs.Refusing.{name-here, no-name-here, none-bad}
 use Rattle.reader.proofs.scan.any_bad_name.Statement.{statement}

@@ -4,7 +4,7 @@ use Prim.Native.Nat.{_-_}
 use native.Mathlib.Omega.{arith}
 use borrow.Author.Needs.{needs}
 use lib.ListN.{length, drop}
-use Rattle.reader.specs.Reading.{anyForeign}
+use Rattle.text.specs.Reading.{anyForeign}
 use Rattle.reader.proofs.Refusing.{foreign-here, none-foreign}
 use Rattle.reader.proofs.scan.any_foreign.Statement.{statement}
 use Rattle.reader.proofs.scan.any_foreign.Tie as tie

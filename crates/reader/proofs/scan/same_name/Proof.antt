@@ -4,7 +4,7 @@ use Prim.Native.Nat.{_-_, _≤_}
 use native.Mathlib.Omega.{arith}
 use borrow.Author.Needs.{needs}
 use lib.ListN.{length, drop}
-use Rattle.reader.specs.Binding.{sameName}
+use Rattle.text.specs.Binding.{sameName}
 use Rattle.reader.specs.Scanning.{nameRun, nameAt}
 use Rattle.reader.proofs.Scanning.{name-room, name-length}
 use Rattle.reader.proofs.Naming.{other-length, same-ends, names-more, names-differ}

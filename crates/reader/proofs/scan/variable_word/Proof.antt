@@ -3,7 +3,7 @@ use mathlib.Core.Path.{_≡_, sym, ap, _∙_}
 use Prim.Native.Nat.{_-_, _≤_}
 use native.Mathlib.Omega.{arith}
 use borrow.Author.Needs.{needs}
-use Rattle.reader.specs.Binding.{indexOf}
+use Rattle.text.specs.Binding.{indexOf}
 use Rattle.reader.specs.Scanning.{nameAt, variableWord}
 use Rattle.reader.proofs.Naming.{past, past-none, binders, no-binders, its-binder, not-its-binder}
 use Rattle.reader.proofs.scan.variable_word.Statement.{statement}

@@ -1,0 +1,92 @@
+-- Forward by any count, and back by the steps made: the session and every word of both slices are again those given.
+use mathlib.Core.Path.{_≡_, refl, sym, ap, ap₂, _∙_, subst}
+use mathlib.Core.Option.{Option, none, some}
+use Prim.Native.Nat.{ℕ}
+use native.Mathlib.Nat.{zero-add, lt-irrefl}
+use native.Mathlib.Omega.{arith}
+use Rattle.term.specs.Table.{Table, tableIn}
+use Rattle.term.specs.Facts.{Facts}
+use Rattle.term.proofs.Facts.{accepted-facts}
+use Rattle.machine.specs.Machine.{State}
+use Rattle.calls.specs.Session.{Answer, Given}
+use Rattle.calls.specs.Stops.{moment, Room, room}
+use Rattle.calls.specs.Winding.{Run, forwardRun, backRun}
+use Rattle.calls.specs.Calls.{callNumber, wound, forwardOf, backOf}
+use Rattle.calls.specs.Demand.{Standing, leftBy, givenTo}
+use Rattle.calls.proofs.Stops.{Fits}
+use Rattle.calls.proofs.Runs.{Trail, begun, trail-none, trail-fits, trail-good, On, forward-on, Off, back-off}
+use Rattle.calls.proofs.Answers.{forward-refused, back-refused, Enters, entered, forward-winds, laidDown, held-laid-down, held-fits, laid-back}
+
+-- the call back on what a call on g left, by the steps that it made
+abbrev pub backBy : Given → Answer → Answer
+backBy g a = backOf (givenTo (g .table) (g .n) (leftBy a)) (a .steps)
+
+pub record Restored (g : Given) (a b : Answer) : Type 0 where
+  pub session-is : b .session ≡ g .session
+  pub log-is : b .log ≡ g .log
+  pub tape-is : b .tape ≡ g .tape
+  pub steps-are : b .steps ≡ a .steps
+
+refused-trip : (g : Given) (c k : ℕ) → callNumber g ≡ some k → Restored g (forwardOf g c) (backBy g (forwardOf g c))
+refused-trip g c k e = rw (forward-refused g k e c, back-refused g k e 0) (record { session-is = refl; log-is = refl; tape-is = refl; steps-are = refl })
+
+module _ (g : Given) (c : ℕ) (s : State) (h : Enters g s) where
+  abbrev T′ : Table
+  T′ = tableIn (g .table) (g .n)
+
+  abbrev r : Room
+  r = room (g .log) (g .tape)
+
+  abbrev p : ℕ
+  p = g .session .position
+
+  abbrev given : Standing
+  given = record { session = g .session; log = g .log; tape = g .tape }
+
+  abbrev out : Run
+  out = forwardRun T′ r c (moment s p)
+
+  abbrev home : Run
+  home = backRun T′ r (out .steps) (out .last)
+
+  facts : Facts T′
+  facts = accepted-facts (g .table) (g .n) (h .accepted-table)
+
+  fits : Fits r s
+  fits = held-fits T′ given s (h .holds)
+
+  on : On T′ r s 0 p out
+  on = forward-on T′ r s c (moment s p) 0 begun
+
+  trail : Trail T′ r s (out .steps) (out .last .state)
+  trail = rw zero-add at (on .trail)
+
+  off : Off T′ r s (out .steps) (out .steps) p home
+  off = subst (λ q. Off T′ r s (out .steps) (out .steps) p (backRun T′ r (out .steps) (moment (out .last .state) q))) (sym (on .position-is))
+      (back-off T′ r s facts (h .holds .good) fits (out .steps) p trail (λ l. absurd (lt-irrefl (out .steps) l)))
+
+  home-is : laidDown r (home .last) ≡ given
+  home-is = ap₂ (λ u q. laidDown r (moment u q)) (sym state-is) position-is ∙ sym (held-laid-down T′ given s (h .holds))
+    where
+      state-is : s ≡ home .last .state
+      state-is = trail-none T′ r s (subst (λ k. Trail T′ r s k (home .last .state)) (omega arith) (off .trail))
+
+      position-is : home .last .position ≡ p
+      position-is = off .position-is ∙ omega arith
+
+  back-home : backBy g (wound r out) ≡ wound r home
+  back-home =
+      laid-back r (out .last) (trail-fits T′ r s fits trail) (g .table) (g .n) (h .accepted-table) (trail-good T′ r s facts (h .holds .good) trail)
+      (h .short-log) (h .short-tape) (out .steps)
+
+  wound-trip : Restored g (forwardOf g c) (backBy g (forwardOf g c))
+  wound-trip = rw (forward-winds g s h c, back-home)
+      (record { session-is = ap (λ x. x .session) home-is; log-is = ap (λ x. x .log) home-is; tape-is = ap (λ x. x .tape) home-is; steps-are = off .steps-are ∙ omega arith })
+
+-- A refused call makes no step, and the call back is refused as it was.
+pub round-trip : (g : Given) (c : ℕ) → Restored g (forwardOf g c) (backBy g (forwardOf g c))
+round-trip g c = by-number (callNumber g) refl
+  where
+    by-number : (o : Option ℕ) → callNumber g ≡ o → Restored g (forwardOf g c) (backBy g (forwardOf g c))
+    by-number (some k) e = refused-trip g c k e
+    by-number none e = let en = entered g e in wound-trip g c (en .0) (en .1)

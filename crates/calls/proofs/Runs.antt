@@ -1,0 +1,147 @@
+-- Winding along a trail of the plain machine: a run forward goes on from its end, a run back takes its last steps off again.
+use mathlib.Core.Path.{_≡_, refl, sym, ap, subst}
+use mathlib.Core.Option.{Option, none, some}
+use Prim.Native.Nat.{ℕ, zero, suc, _+_, _-_, _≤_, _<_, min}
+use native.Mathlib.Nat.{add-zero, add-suc}
+use native.Mathlib.Omega.{arith}
+use Rattle.term.specs.Table.{Table}
+use Rattle.term.specs.Facts.{Facts}
+use Rattle.machine.specs.Machine.{State, step, stepBack, afterFrom}
+use Rattle.machine.specs.Good.{Good}
+use Rattle.machine.proofs.Reverse.{keeps-good, step-undone}
+use Rattle.calls.specs.Session.{Stop, spent, jam, far, logFull, tapeFull, answer}
+use Rattle.calls.specs.Stops.{Moment, moment, Room, greatest, stopAhead, stopBehind}
+use Rattle.calls.specs.Winding.{Run, ended, longer, wind, forwardRun, backRun}
+use Rattle.calls.specs.Demand.{allowed}
+use Rattle.calls.proofs.Stops.{Fits, start-before-jam, no-stop-behind, Goes, goes}
+
+-- A run forward, from its end: stopped, or one step before a run that has the property.
+module _ (T : Table) (r : Room) (P : ℕ → Moment → Run → Type 0)
+    (none-left : (m : Moment) → P 0 m (ended m spent))
+    (stops : (c : ℕ) (m : Moment) (x : Stop) → stopAhead T r (suc c) m ≡ some x → P (suc c) m (ended m x))
+    (steps : (c : ℕ) (m : Moment) (run : Run) → stopAhead T r (suc c) m ≡ none → (g : Goes T r m) → P c (moment (g .next) (suc (m .position))) run → P (suc c) m (longer m run)) where
+  each-forward : (c : ℕ) (m : Moment) → P c m (forwardRun T r c m)
+  unfolding wind
+  each-forward zero m = none-left m
+  each-forward (suc c) m = by-stop (λ u. each-forward c u) (stopAhead T r (suc c) m) refl
+    where
+      by-stop : ((u : Moment) → P c u (forwardRun T r c u)) → (o : Option Stop) → stopAhead T r (suc c) m ≡ o → P (suc c) m (forwardRun T r (suc c) m)
+      by-stop more (some x) e = rw e (stops c m x e)
+      by-stop more none e =
+          let g : Goes T r m = goes T r c m e in
+          let u : Moment = moment (g .next) (suc (m .position)) in
+          rw (e, g .steps) (steps c m (forwardRun T r c u) e g (more u))
+
+-- "Position is 0 to 4,294,967,295": no run forward passes its greatest.
+pub forward-near : (T : Table) (r : Room) (c : ℕ) (m : Moment) → m .position ≤ greatest → forwardRun T r c m .last .position ≤ greatest
+forward-near T r =
+    each-forward T r (λ c m run. m .position ≤ greatest → run .last .position ≤ greatest) (λ m h. h) (λ c m x e h. h)
+    (λ c m run e g more h. more (let n : ¬ (m .position ≡ greatest) = g .near in omega arith))
+
+-- stops that are no jam and no full slice
+abbrev pub Unhindered : Stop → Type 0
+Unhindered spent = Unit
+Unhindered jam = ⊥
+Unhindered far = Unit
+Unhindered Stop.start = Unit
+Unhindered logFull = ⊥
+Unhindered tapeFull = ⊥
+Unhindered (answer i) = Unit
+
+-- The machine comes from s₀ to s in k steps, and each state that it comes to fits the slices.
+pub data Trail (T : Table) (r : Room) (s₀ : State) : ℕ → State → Type 0 where
+  begun : Trail T r s₀ 0 s₀
+  then : {k : ℕ} {u s : State} → Trail T r s₀ k u → step T u ≡ some s → Fits r s → Trail T r s₀ (suc k) s
+
+module _ (T : Table) (r : Room) (s₀ : State) where
+  pub trail-none : {s : State} → Trail T r s₀ 0 s → s₀ ≡ s
+  trail-none begun = refl
+
+  pub trail-after : {k : ℕ} {s : State} → Trail T r s₀ k s → afterFrom T s₀ k ≡ some s
+  unfolding afterFrom
+  trail-after begun = refl
+  trail-after (then t e f) = rw (trail-after t) e
+
+  pub trail-fits : Fits r s₀ → {k : ℕ} {s : State} → Trail T r s₀ k s → Fits r s
+  trail-fits f₀ begun = f₀
+  trail-fits f₀ (then t e f) = f
+
+  pub trail-good : Facts T → Good T s₀ → {k : ℕ} {s : State} → Trail T r s₀ k s → Good T s
+  trail-good F g begun = g
+  trail-good F g (then {u = u} {s = s} t e f) = keeps-good T F u s (trail-good F g t) e
+
+  -- A run forward from the end of k steps, at position p.
+  pub record On (k p : ℕ) (run : Run) : Type 0 where
+    pub trail : Trail T r s₀ (k + run .steps) (run .last .state)
+    pub position-is : run .last .position ≡ p + run .steps
+
+  on-here : (k p : ℕ) (s : State) (x : Stop) → Trail T r s₀ k s → On k p (ended (moment s p) x)
+  on-here k p s x t = record { trail = subst (λ j. Trail T r s₀ j s) (sym (add-zero k)) t; position-is = sym (add-zero p) }
+
+  on-longer : (k p : ℕ) (m : Moment) (run : Run) → On (suc k) (suc p) run → On k p (longer m run)
+  on-longer k p m run o = record {
+    trail = subst (λ j. Trail T r s₀ j (run .last .state)) (omega arith) (o .trail);
+    position-is = (let e : run .last .position ≡ suc p + run .steps = o .position-is in omega arith);
+  }
+
+  pub forward-on : (c : ℕ) (m : Moment) (k : ℕ) → Trail T r s₀ k (m .state) → On k (m .position) (forwardRun T r c m)
+  forward-on =
+      each-forward T r (λ c m run. (k : ℕ) → Trail T r s₀ k (m .state) → On k (m .position) run)
+      (λ m k t. on-here k (m .position) (m .state) spent t)
+      (λ c m x e k t. on-here k (m .position) (m .state) x t)
+      (λ c m run e g more k t. on-longer k (m .position) m run (more (suc k) (then t (g .steps) (g .fits))))
+
+  -- Its steps are those that the stops allow on the plain machine.
+  pub forward-counted : (c : ℕ) (m : Moment) → afterFrom T s₀ (m .position) ≡ some (m .state) → forwardRun T r c m .steps ≡ allowed T s₀ r c (m .position)
+  unfolding allowed afterFrom
+  forward-counted =
+      each-forward T r (λ c m run. afterFrom T s₀ (m .position) ≡ some (m .state) → run .steps ≡ allowed T s₀ r c (m .position))
+      (λ m a. refl)
+      (λ c m x e a. rw (a, e))
+      (λ c m run e g more a. rw (a, e) (ap suc (more (rw a (g .steps)))))
+
+  -- A run back by c from the end of k steps, which began at position p.
+  pub record Off (c k p : ℕ) (run : Run) : Type 0 where
+    pub steps-are : run .steps ≡ min c k
+    pub trail : Trail T r s₀ (k - min c k) (run .last .state)
+    pub position-is : run .last .position ≡ p + (k - min c k)
+    pub unhindered : Unhindered (run .stop)
+
+  off-here : (c k p : ℕ) (s : State) (x : Stop) → min c k ≡ 0 → Unhindered x → Trail T r s₀ k s → Off c k p (ended (moment s (p + k)) x)
+  off-here c k p s x e h t = record {
+    steps-are = sym e;
+    trail = subst (λ j. Trail T r s₀ j s) (omega arith) t;
+    position-is = omega arith;
+    unhindered = h;
+  }
+
+  off-longer : (c k p : ℕ) (m : Moment) (run : Run) → Off c k p run → Off (suc c) (suc k) p (longer m run)
+  off-longer c k p m run o = record {
+    steps-are = (let e : run .steps ≡ min c k = o .steps-are in omega arith);
+    trail = subst (λ j. Trail T r s₀ j (run .last .state)) (omega arith) (o .trail);
+    position-is = (let e : run .last .position ≡ p + (k - min c k) = o .position-is in omega arith);
+    unhindered = o .unhindered;
+  }
+
+  module _ (F : Facts T) (good : Good T s₀) (fits : Fits r s₀) where
+    -- It meets the start only where the trail began at position 0.
+    pub back-off : (c p : ℕ) {k : ℕ} {s : State} → Trail T r s₀ k s → (k < c → p ≡ 0) → Off c k p (backRun T r c (moment s (p + k)))
+    unfolding wind
+    back-off zero p {k} {s} t h = off-here 0 k p s spent (omega arith) tt t
+    back-off (suc c) p begun h = rw stops (off-here (suc c) 0 p s₀ Stop.start (omega arith) tt begun)
+      where
+        stops : stopBehind T r (suc c) (moment s₀ (p + 0)) ≡ some Stop.start
+        stops = let e : p ≡ 0 = h (omega arith) in rw e (start-before-jam T r c s₀)
+    back-off (suc c) p (then {k = k} {u = u} {s = s} t e f) h =
+        rw (passes, undone)
+        (subst (λ q. Off (suc c) (suc k) p (longer (moment s (p + suc k)) (backRun T r c (moment u q)))) lower
+        (off-longer c k p (moment s (p + suc k)) (backRun T r c (moment u (p + k))) (back-off c p t (λ l. h (omega arith)))))
+      where
+        undone : stepBack T s ≡ some u
+        undone = step-undone T F u s (trail-good F good t) e
+
+        passes : stopBehind T r (suc c) (moment s (p + suc k)) ≡ none
+        passes = rw (add-suc p k) (no-stop-behind T r c s (p + k) u undone (trail-fits fits t))
+
+        lower : p + k ≡ p + suc k - 1
+        lower = omega arith

@@ -1,0 +1,6 @@
+pub mod Session
+pub mod Stops
+pub mod Winding
+pub mod Held
+pub mod Calls
+pub mod Demand

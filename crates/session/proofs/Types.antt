@@ -1,0 +1,70 @@
+-- No two declared values mean the same: the mappings of specs/Types.antt are injective.
+use mathlib.Core.Path.{_≡_, refl, sym, ap, _∙_}
+use mathlib.Core.List.{List}
+use Prim.Native.Nat.{ℕ}
+use Rattle.machine.specs.Machine
+use Rattle.calls.specs.Session
+use Rattle.session.specs.Types.{dirMeant, sessionMeant, stopMeant, opened, answered}
+use Rattle.session.specs.declared.Dir.{Dir}
+use Rattle.session.specs.declared.Dir.the-variants.{Down, Up}
+use Rattle.session.specs.declared.Session as Declared
+use Rattle.session.specs.declared.Stop.{Stop}
+use Rattle.session.specs.declared.Stop.the-variants.{Spent, Answer, Jam, Far, Start, LogFull, TapeFull, Refused}
+use Rattle.session.specs.declared.Opening.{Opening}
+use Rattle.session.specs.declared.Outcome.{Outcome}
+
+-- what is mapped back as it was is told apart
+from-back : {A B : Type 0} (f : A → B) (back : B → A) → ((a : A) → back (f a) ≡ a) → (a b : A) → f a ≡ f b → a ≡ b
+from-back f back h a b e = sym (h a) ∙ ap back e ∙ h b
+
+dirBack : Machine.Dir → Dir
+dirBack Machine.down = Down
+dirBack Machine.up = Up
+
+dir-back : (d : Dir) → dirBack (dirMeant d) ≡ d
+unfolding dirBack
+dir-back Down = refl
+dir-back Up = refl
+
+pub dir-once : (d e : Dir) → dirMeant d ≡ dirMeant e → d ≡ e
+dir-once = from-back (λ d. dirMeant d) dirBack dir-back
+
+stopBack : Session.Outcome → Stop
+stopBack (Session.stopped Session.spent) = Spent
+stopBack (Session.stopped Session.jam) = Jam
+stopBack (Session.stopped Session.far) = Far
+stopBack (Session.stopped Session.start) = Start
+stopBack (Session.stopped Session.logFull) = LogFull
+stopBack (Session.stopped Session.tapeFull) = TapeFull
+stopBack (Session.stopped (Session.answer i)) = Answer i
+stopBack (Session.refused k) = Refused k
+
+stop-back : (x : Stop) → stopBack (stopMeant x) ≡ x
+unfolding stopBack
+stop-back Spent = refl
+stop-back (Answer i) = refl
+stop-back Jam = refl
+stop-back Far = refl
+stop-back Start = refl
+stop-back LogFull = refl
+stop-back TapeFull = refl
+stop-back (Refused k) = refl
+
+pub stop-once : (x y : Stop) → stopMeant x ≡ stopMeant y → x ≡ y
+stop-once = from-back (λ x. stopMeant x) stopBack stop-back
+
+pub session-once : (s u : Declared.Session) → sessionMeant s ≡ sessionMeant u → s ≡ u
+session-once s u e =
+    let d = dir-once (s .dir) (u .dir) (ap (λ x. x .dir) e) in
+    λ i. record { node = e i .node; dir = d i; position = e i .position; «log_len» = e i .logLength; «tape_len» = e i .tapeLength }
+
+pub opened-once : (o u : Opening) (ls ls′ ts ts′ : List ℕ) → opened o ls ts ≡ opened u ls′ ts′ → (o ≡ u) × (ls ≡ ls′) × (ts ≡ ts′)
+opened-once o u ls ls′ ts ts′ e =
+    let s = session-once (o .session) (u .session) (ap (λ x. x .session) e) in
+    (λ i. record { session = s i; refusal = e i .refusal }, ap (λ x. x .log) e, ap (λ x. x .tape) e)
+
+pub answered-once : (o u : Outcome) (ls ls′ ts ts′ : List ℕ) → answered o ls ts ≡ answered u ls′ ts′ → (o ≡ u) × (ls ≡ ls′) × (ts ≡ ts′)
+answered-once o u ls ls′ ts ts′ e =
+    let s = session-once (o .session) (u .session) (ap (λ x. x .session) e) in
+    let x = stop-once (o .stop) (u .stop) (ap (λ y. y .outcome) e) in
+    (λ i. record { session = s i; steps = e i .steps; stop = x i; peak = e i .peak }, ap (λ y. y .log) e, ap (λ y. y .tape) e)

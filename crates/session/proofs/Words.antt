@@ -1,0 +1,122 @@
+-- The tests of number 9, word by word from the low end of a slice.
+use mathlib.Core.Path.{_≡_, refl, sym, ap, _∙_}
+use mathlib.Core.Bool.{Bool, true, false, cond}
+use mathlib.Core.Option.{Option, none, some}
+use mathlib.Core.List.{List, _∷_}
+use Prim.Native.Nat.{ℕ, zero, suc, _+_, _-_, _≤_, _<_}
+use native.Mathlib.Numerals.{add-one}
+use native.Mathlib.Omega.{arith}
+use lib.ListN.{length, take, drop, getD, length-drop, drop-of-length-le}
+use lib.Seq.{drop-cons, take-all}
+use lib.Dec.{eqb}
+use borrow.Author.Tests.{eq-eqb, ne-eqb, le-leb, lt-leb}
+use Rattle.term.specs.Choice.{_>>=_, ifSome}
+use Rattle.term.specs.Table.{Table, arity, kindOf}
+use Rattle.machine.specs.Machine.{isVariable}
+use Rattle.machine.specs.Slice.{makesEntry, allZero}
+use Rattle.session.specs.Counting.{countEntry, haveLog, countItem, haveTape}
+use Rattle.session.specs.Types.{numberMeant}
+use Rattle.session.proofs.Numbers.{number-some}
+
+-- the word at i, and the words after it
+next-word : (s : List ℕ) (i : ℕ) → i < length s → drop i s ≡ getD s i 0 ∷ drop (i + 1) s
+next-word s i h = rw (add-one, drop-cons s i 0)
+
+module _ (s : List ℕ) (i : ℕ) where
+  module _ (h : i < length s) where
+    pub zero-more : getD s i 0 ≡ 0 → allZero (drop i s) ≡ allZero (drop (i + 1) s)
+    unfolding allZero
+    zero-more z = rw (next-word s i h, eq-eqb (getD s i 0) 0 z)
+
+    pub zero-stop : (getD s i 0 ≡ 0 → ⊥) → allZero (drop i s) ≡ false
+    unfolding allZero
+    zero-stop z = rw (next-word s i h, ne-eqb (getD s i 0) 0 z)
+
+  pub zero-end : length s ≤ i → allZero (drop i s) ≡ true
+  unfolding allZero
+  zero-end h = rw (drop-of-length-le s h)
+
+-- what is said of the part of a slice that is lent from k on
+pub zeros-past : (s : List ℕ) (k : ℕ) {r b : Bool} → r ≡ allZero (take (length s - k) (drop k s)) → r ≡ b → allZero (drop k s) ≡ b
+zeros-past s k e t = ap allZero (sym (take-all (length s - k) (drop k s) (omega (arith, length-drop k s)))) ∙ sym e ∙ t
+
+-- what is said of a count and a level, said of the level in the table
+pub counted-to : (o : Option ℕ) (v u : ℕ) {r b : Bool} → v ≡ u → r ≡ ifSome o (λ k. eqb k v) (λ _. false) → r ≡ b → ifSome o (λ k. eqb k u) (λ _. false) ≡ b
+counted-to o v u e p q = ap (λ m. ifSome o (λ k. eqb k m) (λ _. false)) (sym e) ∙ sym p ∙ q
+
+module _ (T : Table) where
+  -- what a word counts, by the table
+  other-kind : (k : ℕ) → (k ≡ 1 → ⊥) → isVariable (kindOf k) ≡ false
+  unfolding kindOf
+  other-kind zero z = refl
+  other-kind (suc zero) z = absurd (z refl)
+  other-kind (suc (suc zero)) z = refl
+  other-kind (suc (suc (suc zero))) z = refl
+  other-kind (suc (suc (suc (suc k)))) z = refl
+
+  module _ (v have : ℕ) where
+    pub count-other : (T .kind v ≡ 1 → ⊥) → 0 ≡ numberMeant (countEntry T v have)
+    unfolding countEntry
+    count-other z = rw (other-kind (T .kind v) z)
+
+    module _ (e : T .kind v ≡ 1) where
+      pub count-few : have < arity T v → 0 ≡ numberMeant (countEntry T v have)
+      unfolding countEntry kindOf
+      count-few h = rw (e, lt-leb (arity T v) have h)
+
+      pub count-entry : arity T v ≤ have → have - arity T v + 1 ≡ numberMeant (countEntry T v have)
+      unfolding countEntry kindOf
+      count-entry h = rw (e, le-leb (arity T v) have h)
+
+  -- A word makes one entry at most, and never leaves none.
+  count-by : (b : Bool) (a have : ℕ) → (numberMeant (cond b (some (have - a + 1)) none) ≤ have + 1) × (numberMeant (cond b (some (have - a + 1)) none) ≡ 0 → cond b (some (have - a + 1)) none ≡ none)
+  count-by true a have = (omega arith, λ e. absurd (omega arith))
+  count-by false a have = (omega arith, λ e. refl)
+
+  pub count-most : (v have : ℕ) → numberMeant (countEntry T v have) ≤ have + 1
+  unfolding countEntry
+  count-most v have = count-by (makesEntry T v have) (arity T v) have .0
+
+  count-none : (v have : ℕ) → numberMeant (countEntry T v have) ≡ 0 → countEntry T v have ≡ none
+  unfolding countEntry
+  count-none v have = count-by (makesEntry T v have) (arity T v) have .1
+
+  module _ (ws : List ℕ) (i have : ℕ) where
+    pub log-end : length ws ≤ i → haveLog T (drop i ws) have ≡ some have
+    unfolding haveLog
+    log-end h = rw (drop-of-length-le ws h)
+
+    pub tape-end : length ws ≤ i → haveTape T (drop i ws) have ≡ some have
+    unfolding haveTape
+    tape-end h = rw (drop-of-length-le ws h)
+
+    module _ (h : i < length ws) where
+      log-next : haveLog T (drop i ws) have ≡ (countEntry T (getD ws i 0) have >>= λ k. haveLog T (drop (i + 1) ws) k)
+      unfolding haveLog
+      log-next = rw (next-word ws i h)
+
+      pub log-stop : 0 ≡ numberMeant (countEntry T (getD ws i 0) have) → haveLog T (drop i ws) have ≡ none
+      log-stop e = rw (log-next, count-none (getD ws i 0) have (sym e))
+
+      pub log-more : (k : ℕ) → k ≡ numberMeant (countEntry T (getD ws i 0) have) → (k ≡ 0 → ⊥) → haveLog T (drop i ws) have ≡ haveLog T (drop (i + 1) ws) k
+      log-more k e z = rw (log-next, number-some (countEntry T (getD ws i 0) have) k e z)
+
+      tape-next : haveTape T (drop i ws) have ≡ (countItem T (getD ws i 0) have >>= λ k. haveTape T (drop (i + 1) ws) k)
+      unfolding haveTape
+      tape-next = rw (next-word ws i h)
+
+      pub tape-bullet : getD ws i 0 ≡ 0 → haveTape T (drop i ws) have ≡ haveTape T (drop (i + 1) ws) 0
+      unfolding countItem
+      tape-bullet z = rw (tape-next, z)
+
+      item-entry : (v : ℕ) → (v ≡ 0 → ⊥) → countItem T v have ≡ countEntry T v have
+      unfolding countItem
+      item-entry zero z = absurd (z refl)
+      item-entry (suc v) z = refl
+
+      module _ (z : getD ws i 0 ≡ 0 → ⊥) where
+        pub tape-stop : 0 ≡ numberMeant (countEntry T (getD ws i 0) have) → haveTape T (drop i ws) have ≡ none
+        tape-stop e = rw (tape-next, item-entry (getD ws i 0) z, count-none (getD ws i 0) have (sym e))
+
+        pub tape-more : (k : ℕ) → k ≡ numberMeant (countEntry T (getD ws i 0) have) → (k ≡ 0 → ⊥) → haveTape T (drop i ws) have ≡ haveTape T (drop (i + 1) ws) k
+        tape-more k e y = rw (tape-next, item-entry (getD ws i 0) z, number-some (countEntry T (getD ws i 0) have) k e y)

@@ -1,0 +1,60 @@
+-- A call forward or back: refused by its number, or wound.
+use mathlib.Core.Path.{_≡_, sym, _∙_}
+use Rattle.calls.specs.Calls.{callNumber}
+use Rattle.session.specs.Types.{lent, numberMeant}
+use Rattle.session.proofs.Calls.{call-refused, call-ready, call-winds}
+use borrow.Author.Needs.{needs}
+use Rattle.session.proofs.call.Statement.{statement}
+use Rattle.session.proofs.call.Tie as tie
+
+-- past the test no number refuses the call
+unrefused : (e : tie.Else1) → (let a = e .before .before .before .before .before .before .before .args in 0 ≡ numberMeant (callNumber (lent (a .table .now) (a .n) (a .session) (a .log .now) (a .tape .now))))
+unrefused e = sym (e .if1 .left) ∙ e .before .call-number .ensures
+
+call-number-requires : tie.Need-call-number-requires
+call-number-requires c κs = search needs
+
+refused-requires : tie.Need-refused-requires
+refused-requires c κs = search needs
+
+same-length : tie.Need-same-length
+same-length c = search needs
+
+same-length-2 : tie.Need-same-length-2
+same-length-2 c = search needs
+
+returns : tie.Need-returns
+returns c =
+    let a = c .before .before .before .before .before .before .before .before .args in
+    let k = c .before .before .call-number in
+    c .refused .ensures (a .table .now) (a .n) (a .log .now) (a .tape .now) ∙ sym (call-refused (a .table .now) (a .n) (a .session) (a .log .now) (a .tape .now) (a .way) (k .result) (a .count) (k .ensures) (c .before .if1 .taken))
+
+wind-requires : tie.Need-wind-requires
+wind-requires c κs = let a = c .before .before .before .before .before .before .before .before .before .args in call-ready (a .table .now) (a .n) (a .session) (a .log .now) (a .tape .now) (unrefused (c .before .before))
+
+same-length-3 : tie.Need-same-length-3
+same-length-3 c = search needs
+
+same-length-4 : tie.Need-same-length-4
+same-length-4 c = search needs
+
+returns-2 : tie.Need-returns-2
+returns-2 c =
+    let a = c .before .before .before .before .before .before .before .before .before .before .before .before .before .before .args in
+    let e = unrefused (c .before .before .before .before .before .before .before) in
+    let r = call-ready (a .table .now) (a .n) (a .session) (a .log .now) (a .tape .now) e in
+    c .before .before .before .before .wind .ensures (r .state) (r .stands) ∙ sym (call-winds (a .table .now) (a .n) (a .session) (a .log .now) (a .tape .now) e (a .way) (a .count))
+
+pub call-spec : {M : Type 1} → statement M
+call-spec =
+    tie.close
+    (tie.spec
+    call-number-requires
+    refused-requires
+    same-length
+    same-length-2
+    returns
+    wind-requires
+    same-length-3
+    same-length-4
+    returns-2)

@@ -1,0 +1,53 @@
+-- What the choice of a rule and the rules' functions promise: how the step goes from the state that the session and its slices hold.
+use mathlib.Core.Path.{_≡_}
+use mathlib.Core.Option.{none, some}
+use mathlib.Core.List.{List, _∷_}
+use Prim.Native.Nat.{ℕ, _≤_}
+use Rattle.term.specs.Table.{Table, tableIn, arity}
+use Rattle.machine.specs.Entries.{Entry, entry, Log, _▸_, howMany, top, rest, _onto_, bullet, held, Tape}
+use Rattle.machine.specs.Machine.{down, up, State, state, step}
+use Rattle.session.specs.Steps.{Stands, Ready, StepIs}
+use Rattle.session.specs.Types.{dirMeant}
+use Rattle.session.specs.declared.Dir as DeclaredDir
+use Rattle.session.specs.declared.Session as Declared
+use Rattle.session.specs.declared.choice.Rule.{Rule}
+use Rattle.session.specs.declared.choice.Rule.the-variants.{One, Two, Three, Four, Five, Six, Seven, Eight, Unfit}
+use Rattle.session.specs.declared.rules.Stepped.{Stepped}
+
+-- By the rule of document 01 that fits and the node j that it leads to: what the rule finds on top of log or tape, and the state after it.
+abbrev pub RuleIs : Table → State → Rule → Type 0
+RuleIs T s (One j) = step T s ≡ some (state j down (s .log) (bullet ∷ s .tape))
+RuleIs T s (Two j) = (t : Tape) × (s .tape ≡ bullet ∷ t) × (step T s ≡ some (state j down (s .log) t))
+RuleIs T s (Three j) =
+    (arity T (s .node) ≤ howMany (s .log))
+    × (step T s ≡ some (state j up (rest (arity T (s .node)) (s .log)) (held (entry (s .node) (top (arity T (s .node)) (s .log))) ∷ s .tape)))
+RuleIs T s (Four j) = (es : Log) × (t : Tape) × (s .tape ≡ held (entry j es) ∷ t) × (step T s ≡ some (state j up (es onto s .log) t))
+RuleIs T s (Five j) = (t : Tape) × (s .tape ≡ bullet ∷ t) × (step T s ≡ some (state j up (s .log) t))
+RuleIs T s (Six j) = (e : Entry) × (t : Tape) × (s .tape ≡ held e ∷ t) × (step T s ≡ some (state j down (e ▸ s .log) t))
+RuleIs T s (Seven j) = step T s ≡ some (state j up (s .log) (bullet ∷ s .tape))
+RuleIs T s (Eight j) = (e : Entry) × (L : Log) × (s .log ≡ e ▸ L) × (step T s ≡ some (state j down L (held e ∷ s .tape)))
+RuleIs T s Unfit = step T s ≡ none
+
+-- what the choice of a rule promises of every state held
+abbrev pub Choice : List ℕ → ℕ → Declared.Session → List ℕ → Rule → Type 0
+Choice w n se ts r = (ls : List ℕ) (s : State) → Stands w n se ls ts s → RuleIs (tableIn w n) s r
+
+-- what the function of one rule requires
+pub record Fitting (w : List ℕ) (n : ℕ) (se : Declared.Session) (ls ts : List ℕ) (r : Rule) : Type 0 where
+  pub ready : Ready w n se ls ts
+  pub fits : (s : State) → Stands w n se ls ts s → RuleIs (tableIn w n) s r
+
+-- and what it promises of every state held
+abbrev pub Steps : List ℕ → ℕ → Declared.Session → List ℕ → List ℕ → Stepped → List ℕ → List ℕ → Type 0
+Steps w n se ls ts r ls′ ts′ = (s : State) → Stands w n se ls ts s → StepIs w n se ls ts s r ls′ ts′
+
+-- The same of the rules that only count a bullet's word, which lead to node j in direction d: nothing is written.
+abbrev pub BulletComes : Declared.Session → ℕ → DeclaredDir.Dir → List ℕ → Stepped → Type 0
+BulletComes se j d ts r =
+    (w : List ℕ) (n : ℕ) (ls : List ℕ) (s : State) → Stands w n se ls ts s
+    → step (tableIn w n) s ≡ some (state j (dirMeant d) (s .log) (bullet ∷ s .tape)) → StepIs w n se ls ts s r ls ts
+
+abbrev pub BulletGoes : Declared.Session → ℕ → DeclaredDir.Dir → Stepped → Type 0
+BulletGoes se j d r =
+    (w : List ℕ) (n : ℕ) (ls ts : List ℕ) (s : State) (t : Tape) → Stands w n se ls ts s → s .tape ≡ bullet ∷ t
+    → step (tableIn w n) s ≡ some (state j (dirMeant d) (s .log) t) → StepIs w n se ls ts s r ls ts

@@ -1,0 +1,60 @@
+-- The declared types as the definitions' own: this paper's name and values for each of their cases.
+use mathlib.Core.Option.{Option, none, some}
+use mathlib.Core.List.{List}
+use Prim.Native.Nat.{ℕ}
+use Rattle.machine.specs.Machine
+use Rattle.calls.specs.Session
+use Rattle.session.specs.declared.Dir.{Dir}
+use Rattle.session.specs.declared.Dir.the-variants.{Down, Up}
+use Rattle.session.specs.declared.Session as Declared
+use Rattle.session.specs.declared.Stop.{Stop}
+use Rattle.session.specs.declared.Stop.the-variants.{Spent, Answer, Jam, Far, Start, LogFull, TapeFull, Refused}
+use Rattle.session.specs.declared.Opening.{Opening}
+use Rattle.session.specs.declared.Outcome.{Outcome}
+
+abbrev pub dirMeant : Dir → Machine.Dir
+dirMeant Down = Machine.down
+dirMeant Up = Machine.up
+
+abbrev pub sessionMeant : Declared.Session → Session.Session
+sessionMeant s = record {
+  node = s .node;
+  dir = dirMeant (s .dir);
+  position = s .position;
+  logLength = s .«log_len»;
+  tapeLength = s .«tape_len»;
+}
+
+-- A refusal is kept apart from a stop.
+abbrev pub stopMeant : Stop → Session.Outcome
+stopMeant Spent = Session.stopped Session.spent
+stopMeant (Answer i) = Session.stopped (Session.answer i)
+stopMeant Jam = Session.stopped Session.jam
+stopMeant Far = Session.stopped Session.far
+stopMeant Start = Session.stopped Session.start
+stopMeant LogFull = Session.stopped Session.logFull
+stopMeant TapeFull = Session.stopped Session.tapeFull
+stopMeant (Refused k) = Session.refused k
+
+-- An answer together with both slices at exit.
+abbrev pub opened : Opening → List ℕ → List ℕ → Session.Opening
+opened o ls ts = record { session = sessionMeant (o .session); refusal = o .refusal; log = ls; tape = ts }
+
+abbrev pub answered : Outcome → List ℕ → List ℕ → Session.Answer
+answered o ls ts = record {
+  session = sessionMeant (o .session);
+  steps = o .steps;
+  outcome = stopMeant (o .stop);
+  peak = o .peak;
+  log = ls;
+  tape = ts;
+}
+
+-- What a call was lent.
+abbrev pub lent : List ℕ → ℕ → Declared.Session → List ℕ → List ℕ → Session.Given
+lent w n s ls ts = record { table = w; n = n; session = sessionMeant s; log = ls; tape = ts }
+
+-- A refusal's number, and 0 for none.
+abbrev pub numberMeant : Option ℕ → ℕ
+numberMeant none = 0
+numberMeant (some k) = k

@@ -1,0 +1,139 @@
+// The numbers 7, 8 and 9, in their order of test.
+ghost use mathlib.Core.Path.{_≡_};
+ghost use mathlib.Core.Bool.{false, not};
+ghost use Prim.Native.Nat.{_^_, _<_};
+ghost use lib.Dec.{eqb};
+ghost use Rattle.term.specs.Choice.{isNone, ifSome};
+ghost use Rattle.term.specs.Table.{tableIn};
+ghost use Rattle.machine.specs.Slice.{allZero};
+ghost use Rattle.calls.specs.Held.{stateIn};
+ghost use Rattle.session.specs.Counting.{countEntry, haveLog, haveTape};
+ghost use Rattle.calls.specs.Calls.{openNumber, callNumber};
+ghost use Rattle.session.specs.Types.{sessionMeant, lent, numberMeant};
+use crate::Session;
+use crate::extent::arity;
+
+// Whether every word is 0.
+fn zeros(words: &[u32]) -> bool
+    ensures { λ r. ⌜ r ≡ allZero (now (words .entry)) ⌝ }
+{
+    let mut i: usize = 0;
+    while i < words.len() {
+        if words[i] != 0 {
+            return false;
+        }
+        i += 1;
+    }
+    true
+}
+
+// How many entries there are once word v has taken its arity-many of those there were, or 0 where it makes none.
+fn entries_with(table: &[u32], n: u32, v: u32, have: usize) -> usize
+    requires { ⌜ have < 2 ^ 63 ⌝ }
+    ensures { λ r. ⌜ r ≡ numberMeant (countEntry (tableIn (now (table .entry)) n) v have) ⌝ }
+{
+    if term::kind(table, n, v) != 1 {
+        return 0;
+    }
+    let a = arity(table, n, v) as usize;
+    if have < a { 0 } else { have - a + 1 }
+}
+
+// Whether the words, read from the low end, are those of so many entries.
+fn is_log(table: &[u32], n: u32, words: &[u32], level: u32) -> bool
+    ensures { λ r. ⌜ r ≡ ifSome (haveLog (tableIn (now (table .entry)) n) (now (words .entry)) 0) (λ k. eqb k level) (λ _. false) ⌝ }
+{
+    let mut have: usize = 0;
+    let mut i: usize = 0;
+    while i < words.len() {
+        have = entries_with(table, n, words[i], have);
+        if have == 0 {
+            return false;
+        }
+        i += 1;
+    }
+    have == level as usize
+}
+
+// Whether the words, read from the low end, are those of bullets and entries.
+fn is_tape(table: &[u32], n: u32, words: &[u32]) -> bool
+    ensures { λ r. ⌜ r ≡ not (isNone (haveTape (tableIn (now (table .entry)) n) (now (words .entry)) 0)) ⌝ }
+{
+    let mut have: usize = 0;
+    let mut i: usize = 0;
+    while i < words.len() {
+        if words[i] == 0 {
+            have = 0;
+        } else {
+            have = entries_with(table, n, words[i], have);
+            if have == 0 {
+                return false;
+            }
+        }
+        i += 1;
+    }
+    true
+}
+
+// Whether the session and its slices hold a state.
+fn holds_state(table: &[u32], n: u32, session: Session, log: &[u32], tape: &[u32]) -> bool
+    ensures { λ r. ⌜ r ≡ not (isNone (stateIn (tableIn (now (table .entry)) n) (sessionMeant session) (now (log .entry)) (now (tape .entry)))) ⌝ }
+{
+    let node = session.node;
+    let l = session.log_len as usize;
+    let t = session.tape_len as usize;
+    if node == 0 {
+        return false;
+    }
+    if n < node {
+        return false;
+    }
+    if log.len() < l {
+        return false;
+    }
+    if tape.len() < t {
+        return false;
+    }
+    if !zeros(&log[l..]) {
+        return false;
+    }
+    if !zeros(&tape[t..]) {
+        return false;
+    }
+    let level = term::level(table, n, node);
+    if !is_log(table, n, &log[..l], level) {
+        return false;
+    }
+    is_tape(table, n, &tape[..t])
+}
+
+// The number that refuses open, or 0.
+pub(crate) fn open_number(table: &[u32], n: u32, log: &[u32], tape: &[u32]) -> u32
+    ensures { λ r. ⌜ r ≡ numberMeant (openNumber (now (table .entry)) n (now (log .entry)) (now (tape .entry))) ⌝ }
+{
+    if !term::accepts(table, n) {
+        return 7;
+    }
+    if log.len() > 16384 {
+        return 8;
+    }
+    if tape.len() > 16384 {
+        return 8;
+    }
+    0
+}
+
+// The number that refuses forward, back and go-to, or 0.
+pub(crate) fn call_number(table: &[u32], n: u32, session: Session, log: &[u32], tape: &[u32]) -> u32
+    ensures { λ r. ⌜ r ≡ numberMeant (callNumber (lent (now (table .entry)) n session (now (log .entry)) (now (tape .entry)))) ⌝ }
+{
+    let k = open_number(table, n, log, tape);
+    if k != 0 {
+        return k;
+    }
+    if holds_state(table, n, session, log, tape) {
+        0
+    } else {
+        9
+    }
+}

@@ -1,0 +1,10 @@
+-- The theorems of the text of a term: its tokens, its grammar, its names, and what the reader answers.
+pub mod Each
+pub mod Tokens
+pub mod Spelt
+pub mod Steady
+pub mod Parse
+pub mod Binding
+pub mod Size
+pub mod Exactly
+pub mod Accepted

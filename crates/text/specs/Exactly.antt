@@ -1,0 +1,81 @@
+-- What the reader accepts and refuses, in the words of document 01. Theorems of the same names: proofs/Exactly.antt.
+use mathlib.Core.Path.{_≡_}
+use mathlib.Core.Logic.{_↔_}
+use mathlib.Core.Bool.{Bool, true, false}
+use mathlib.Core.Option.{Option, none, some}
+use mathlib.Core.List.{List, [], _∷_, _++_}
+use Prim.Native.Nat.{ℕ, _*_, _≤_, _<_}
+use lib.ListN.{length, drop}
+use Rattle.term.specs.Term.{Term, size}
+use Rattle.term.specs.Table.{tableOf}
+use Rattle.text.specs.Bytes.{Class, foreign, classOf}
+use Rattle.text.specs.Tokens.{Name, Token, mark, name, tokens, startsWithDigit}
+use Rattle.text.specs.Grammar.{Tree, Derives}
+use Rattle.text.specs.Binding.{Form, ClosedIn}
+use Rattle.text.specs.Reading.{Read, mostBytes, readOf}
+
+-- number 2 does not apply: no byte is foreign
+abbrev pub NoForeign : List ℕ → Type 0
+NoForeign [] = Unit
+NoForeign (b ∷ s) = (classOf b ≡ foreign → ⊥) × NoForeign s
+
+-- number 3 does not apply: each name has at most 8 bytes and starts with no digit
+abbrev pub GoodNames : List Token → Type 0
+GoodNames [] = Unit
+GoodNames (mark b ∷ ts) = GoodNames ts
+GoodNames (name x ∷ ts) = (length x ≤ 8) × (startsWithDigit x ≡ false) × GoodNames ts
+
+-- numbers 1 to 3 do not apply
+pub record Spelled (text : List ℕ) : Type 0 where
+  pub few-bytes : length text ≤ mostBytes
+  pub no-foreign : NoForeign text
+  pub good-names : GoodNames (tokens text)
+
+-- The tokens derive a tree, it is closed, and this is its form without names.
+pub record Means (text : List ℕ) (t : Term) : Type 0 where
+  pub tree : Tree
+  pub derives : Derives (tokens text) tree
+  pub closed : ClosedIn tree []
+  pub form : Form tree [] t
+
+-- n and these words
+pub record Accepts (text table : List ℕ) (n : ℕ) (words : List ℕ) : Type 0 where
+  pub well-spelled : Spelled text
+  pub term : Term
+  pub means : Means text term
+  pub n-is : n ≡ size term
+  pub room : 5 * n ≤ length table
+  pub words-are : words ≡ tableOf term ++ drop (5 * n) table
+
+abbrev pub AcceptedExactly : Type 0
+AcceptedExactly =
+    (text table : List ℕ) (n : ℕ) (words : List ℕ)
+    → (readOf text table ≡ record { n = n; refusal = 0; table = words }) ↔ Accepts text table n words
+
+-- numbers 1, 2 and 3
+abbrev pub OneExactly : Type 0
+OneExactly = (text table : List ℕ) → (readOf text table .refusal ≡ 1) ↔ (mostBytes < length text)
+
+abbrev pub TwoExactly : Type 0
+TwoExactly = (text table : List ℕ) → (readOf text table .refusal ≡ 2) ↔ ((length text ≤ mostBytes) × (NoForeign text → ⊥))
+
+abbrev pub ThreeExactly : Type 0
+ThreeExactly =
+    (text table : List ℕ) → (readOf text table .refusal ≡ 3) ↔ ((length text ≤ mostBytes) × NoForeign text × (GoodNames (tokens text) → ⊥))
+
+-- number 4: nothing is derived
+abbrev pub FourExactly : Type 0
+FourExactly = (text table : List ℕ) → (readOf text table .refusal ≡ 4) ↔ (Spelled text × ((t : Tree) → Derives (tokens text) t → ⊥))
+
+-- number 5: the derived tree is not closed
+abbrev pub FiveExactly : Type 0
+FiveExactly = (text table : List ℕ) → (readOf text table .refusal ≡ 5) ↔ (Spelled text × ((t : Tree) × Derives (tokens text) t × (ClosedIn t [] → ⊥)))
+
+-- number 6: the slice is too short for the term's table
+abbrev pub SixExactly : Type 0
+SixExactly = (text table : List ℕ) → (readOf text table .refusal ≡ 6) ↔ (Spelled text × ((t : Term) × Means text t × (length table < 5 * size t)))
+
+-- "A refused reader answers n as 0", and no lent word differs.
+abbrev pub RefusedUnchanged : Type 0
+RefusedUnchanged =
+    (text table : List ℕ) → (readOf text table .refusal ≡ 0 → ⊥) → (readOf text table .n ≡ 0) × (readOf text table .table ≡ table)
