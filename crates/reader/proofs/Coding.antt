@@ -1,15 +1,15 @@
 -- The code of applied atoms: a mark for each application, and then the atoms' codes in a row. The names around a place.
 use mathlib.Core.Path.{_≡_, sym, ap, _∙_}
 use mathlib.Core.List.{List, [], _∷_, _++_, append-nil, append-assoc}
-use Prim.Native.Nat.{ℕ, _+_, _<_}
+use Prim.Native.Nat.{ℕ, _+_, _≤_, _<_}
 use native.Mathlib.Numerals.{add-one}
 use native.Mathlib.Omega.{arith}
-use lib.ListN.{length, take, set, replicate}
+use lib.ListN.{length, take, set, replicate, length-set}
 use lib.Seq.{take-take, take-set-le, take-suc-set}
 use Rattle.text.specs.Tokens.{Name}
 use Rattle.text.specs.Grammar.{Tree, apply, Atoms, no-more, _and_, atomTree, applied}
 use Rattle.reader.specs.Scanning.{nameAt, namesAt, treeCode}
-use Rattle.reader.specs.Answers.{atomCode, atomsCode, howMany, Place, place, around}
+use Rattle.reader.specs.Answers.{atomCode, atomsCode, howMany, Place, place, around, Room}
 use Rattle.reader.proofs.Scanning.{namesAt-snoc}
 use Rattle.reader.proofs.Moved.{slide}
 
@@ -27,9 +27,12 @@ pub around-kept : (w : Place) (p m : ℕ) (scope₁ out₁ : List ℕ) → take 
     → around (place (w .text) p scope₁ (w .depth) out₁ m) ≡ around w
 around-kept w p m scope₁ out₁ e = ap (λ (l : List ℕ). namesAt (w .text) l []) e
 
--- the names around the body of an abstraction
+-- the body of an abstraction: its place, the room there and the names around it
 abbrev pub body : Place → ℕ → ℕ → Place
 body w x q = place (w .text) q (set (w .scope) (w .depth) x) (w .depth + 1) (set (w .out) (w .node) 1) (w .node + 1)
+
+pub body-room : (w : Place) (x q : ℕ) → Room w → w .at < q → q ≤ length (w .text) → Room (body w x q)
+body-room w x q r on within = omega (arith, length-set (w .scope) (w .depth) x, length-set (w .out) (w .node) 1)
 
 pub around-body : (w : Place) (x q : ℕ) → w .depth < length (w .scope) → around (body w x q) ≡ nameAt (w .text) x ∷ around w
 around-body w x q h =
