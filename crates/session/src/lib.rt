@@ -18,11 +18,13 @@ use check::call_number;
 use winding::Way;
 use winding::wind;
 
+// Which way the token goes.
 pub enum Dir {
     Down,
     Up,
 }
 
+// Where the token stands: its node and direction, the steps from the start, and the lengths in words of log and tape.
 pub struct Session {
     pub node: u32,
     pub dir: Dir,
@@ -31,6 +33,7 @@ pub struct Session {
     pub tape_len: u32,
 }
 
+// Why a call ended. A refusal's number comes instead of a stop.
 pub enum Stop {
     Spent,
     Answer(u32),
@@ -42,11 +45,13 @@ pub enum Stop {
     Refused(u32),
 }
 
+// What open answers. A refusal of 0 is none.
 pub struct Opening {
     pub session: Session,
     pub refusal: u32,
 }
 
+// What forward, back and go-to answer.
 pub struct Outcome {
     pub session: Session,
     pub steps: u32,
@@ -127,6 +132,7 @@ fn call(
     wind(table, n, session, log, tape, way, count)
 }
 
+// Forward by a count: steps of the plain machine until a stop.
 pub fn forward(
     table: &[u32],
     n: u32,
@@ -140,6 +146,7 @@ pub fn forward(
     call(table, n, session, log, tape, Way::Forward, count)
 }
 
+// Back by a count: each step is turned, made and turned again.
 pub fn back(
     table: &[u32],
     n: u32,
@@ -153,7 +160,7 @@ pub fn back(
     call(table, n, session, log, tape, Way::Back, count)
 }
 
-// Forward or back by the difference.
+// To a position: forward or back by the difference.
 pub fn go_to(
     table: &[u32],
     n: u32,
