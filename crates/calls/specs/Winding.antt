@@ -1,5 +1,5 @@
 -- The steps of one call: how far it goes, how it stops, and its peak.
-use mathlib.Core.Option.{Option, none, some}
+use mathlib.Core.Option.{Option}
 use Prim.Native.Nat.{ℕ, zero, suc, _+_, max}
 use Rattle.term.specs.Choice.{ifSome}
 use Rattle.term.specs.Table.{Table}

@@ -5,9 +5,9 @@ use Prim.Native.Nat.{ℕ, zero, suc}
 use lib.ListN.{replicate}
 use Rattle.term.specs.Table.{Table, tableIn}
 use Rattle.text.specs.Reading.{Read, readOf}
-use Rattle.machine.specs.Entries.{Entry, entry, Log, ε, _▸_, Item, bullet, held, Tape}
+use Rattle.machine.specs.Entries.{Entry, entry, Log, ε, _▸_, bullet, held, Tape}
 use Rattle.machine.specs.Machine.{Dir, down, up, State, state, after}
-use Rattle.calls.specs.Session.{Session, Stop, spent, jam, start, logFull, tapeFull, answer, stopped, Answer, Opening, Given}
+use Rattle.calls.specs.Session.{Session, spent, jam, start, logFull, tapeFull, answer, stopped, Answer, Opening, Given}
 use Rattle.calls.specs.Calls.{openOf, forwardOf, backOf, goToOf}
 
 -- what a case shows: a reading, a call's answer with both slices, or the plain machine's state

@@ -156,7 +156,7 @@ fn towers() {
     end();
 }
 
-pub fn all() {
+pub(crate) fn all() {
     numbers();
     names();
     shapes();

@@ -139,7 +139,7 @@ fn beyond() {
     slices(&log, &tape);
 }
 
-pub fn all() {
+pub(crate) fn all() {
     sevens();
     nines();
     beyond();

@@ -173,7 +173,7 @@ fn large_rooms() {
     );
 }
 
-pub fn all() {
+pub(crate) fn all() {
     no_log();
     no_tape();
     large_rooms();

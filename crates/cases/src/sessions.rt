@@ -16,7 +16,7 @@ use session::go_to;
 use session::open;
 
 // A session made by hand.
-pub fn at(node: u32, dir: Dir, position: u32, log_len: u32, tape_len: u32) -> Session {
+pub(crate) fn at(node: u32, dir: Dir, position: u32, log_len: u32, tape_len: u32) -> Session {
     Session {
         node: node,
         dir: dir,
@@ -27,7 +27,7 @@ pub fn at(node: u32, dir: Dir, position: u32, log_len: u32, tape_len: u32) -> Se
 }
 
 // The table of document 01's example, (\x.x x)(\y.y), and a word after it.
-pub fn example() -> [u32; 36]
+pub(crate) fn example() -> [u32; 36]
     ensures { λ r. ⌜ 36 ≡ length r ⌝ }
 {
     let mut table = [9u32; 36];
@@ -35,7 +35,7 @@ pub fn example() -> [u32; 36]
     table
 }
 
-pub fn opened(name: &[u8], o: Opening) {
+pub(crate) fn opened(name: &[u8], o: Opening) {
     text(name);
     let s = o.session;
     session(s);
@@ -179,7 +179,7 @@ fn greatest() {
     );
 }
 
-pub fn all() {
+pub(crate) fn all() {
     counts();
     listed();
     greatest();

@@ -4,20 +4,20 @@ use session::Outcome;
 use session::Session;
 use session::Stop;
 
-pub fn text(s: &[u8]) {
+pub(crate) fn text(s: &[u8]) {
     let _whole = io::write_all(1, s);
 }
 
-pub fn number(n: u32) {
+pub(crate) fn number(n: u32) {
     text(b" ");
     let _whole = io::print_decimal(1, n as u64);
 }
 
-pub fn end() {
+pub(crate) fn end() {
     text(b"\n");
 }
 
-pub fn words(w: &[u32]) {
+pub(crate) fn words(w: &[u32]) {
     let mut i = 0;
     while i < w.len() {
         number(w[i]);
@@ -26,7 +26,7 @@ pub fn words(w: &[u32]) {
 }
 
 // A sum in which each word's place counts, for slices that are too long to print.
-pub fn sum(w: &[u32]) {
+pub(crate) fn sum(w: &[u32]) {
     let mut all: u64 = 1;
     let mut i = 0;
     while i < w.len() {
@@ -37,7 +37,7 @@ pub fn sum(w: &[u32]) {
     let _whole = io::print_decimal(1, all);
 }
 
-pub fn session(s: Session) {
+pub(crate) fn session(s: Session) {
     number(s.node);
     let dir = s.dir;
     match dir {
@@ -69,7 +69,7 @@ fn stop(x: Stop) {
 }
 
 // A call's name, the session after it, the steps, the stop and the peak.
-pub fn outcome(name: &[u8], o: Outcome) {
+pub(crate) fn outcome(name: &[u8], o: Outcome) {
     text(name);
     let s = o.session;
     session(s);
@@ -82,7 +82,7 @@ pub fn outcome(name: &[u8], o: Outcome) {
 }
 
 // The two slices, word for word, in their order.
-pub fn slices(log: &[u32], tape: &[u32]) {
+pub(crate) fn slices(log: &[u32], tape: &[u32]) {
     text(b" L");
     words(log);
     text(b" T");
@@ -90,7 +90,7 @@ pub fn slices(log: &[u32], tape: &[u32]) {
     end();
 }
 
-pub fn sums(log: &[u32], tape: &[u32]) {
+pub(crate) fn sums(log: &[u32], tape: &[u32]) {
     sum(log);
     sum(tape);
     end();

@@ -138,7 +138,7 @@ fn until_full(table: &[u32; 45]) {
     sums(&log, &tape);
 }
 
-pub fn all() {
+pub(crate) fn all() {
     let mut table = [0u32; 45];
     let _nine = reader::read(b"(\\x.x x)(\\x.x x)", &mut table);
     let mut log = [5u32; 64];

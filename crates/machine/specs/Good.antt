@@ -1,10 +1,9 @@
 -- Which states number 9 of document 01 asks for: entries of the table, and level-many of them in the log.
 use mathlib.Core.Path.{_≡_}
-use mathlib.Core.List.{List, [], _∷_}
-use Prim.Native.Nat.{ℕ}
+use mathlib.Core.List.{[], _∷_}
 use Rattle.term.specs.Table.{Table, arity, variable, kindAt}
 use Rattle.term.specs.Facts.{IsNode}
-use Rattle.machine.specs.Entries.{Entry, entry, Log, ε, _▸_, howMany, Item, bullet, held, Tape}
+use Rattle.machine.specs.Entries.{Entry, entry, Log, ε, _▸_, howMany, bullet, held, Tape}
 use Rattle.machine.specs.Machine.{State}
 
 -- "An entry is a variable's node number followed by as many entries as the variable's arity", down to the leaves.

@@ -1,12 +1,12 @@
 -- Document 01, "The plain machine": its state, its eight rules, a step back, and where it is after p steps.
 use mathlib.Core.Bool.{Bool, true, false, _&&_, cond}
 use mathlib.Core.Option.{Option, none, some, Option·map}
-use mathlib.Core.List.{List, [], _∷_}
+use mathlib.Core.List.{[], _∷_}
 use Prim.Native.Nat.{ℕ, zero, suc}
 use lib.Dec.{leb, eqb}
 use Rattle.term.specs.Choice.{_>>=_}
 use Rattle.term.specs.Table.{Table, arity, Kind, variable, abstraction, application, nothing, kindAt, Place, bodyOf, functionOf, argumentOf, nowhere, placeAt}
-use Rattle.machine.specs.Entries.{Entry, entry, Log, ε, _▸_, howMany, top, rest, _onto_, Item, bullet, held, Tape}
+use Rattle.machine.specs.Entries.{entry, Log, ε, _▸_, howMany, top, rest, _onto_, bullet, held, Tape}
 
 -- "Its state is a node, a direction (down or up), a log and a tape."
 pub data Dir : Type 0 where

@@ -1,5 +1,5 @@
 -- Log and tape in their lent slices: how they lie there, and how they are read back.
-use mathlib.Core.Bool.{Bool, true, false, _&&_, cond}
+use mathlib.Core.Bool.{Bool, true, _&&_, cond}
 use mathlib.Core.Option.{Option, none, some}
 use mathlib.Core.List.{List, [], _∷_, _++_, reverse}
 use Prim.Native.Nat.{ℕ, zero, suc, _-_}
@@ -7,7 +7,7 @@ use lib.ListN.{length, replicate}
 use lib.Dec.{leb, eqb}
 use Rattle.term.specs.Choice.{_>>=_}
 use Rattle.term.specs.Table.{Table, arity, kindAt}
-use Rattle.machine.specs.Entries.{Entry, entry, Log, ε, _▸_, howMany, top, rest, Item, bullet, held, Tape}
+use Rattle.machine.specs.Entries.{entry, Log, ε, _▸_, howMany, top, rest, bullet, held, Tape}
 use Rattle.machine.specs.Machine.{isVariable}
 
 -- In a slice of `room` words the top is at the high end, "the last word read comes first in the slice", and "words above the top are 0".

@@ -1,9 +1,9 @@
 -- A text by positions: how far a name and a gap reach, and the names that stand at the positions of a scope.
-use mathlib.Core.Bool.{Bool, true, false, cond, not, _||_}
+use mathlib.Core.Bool.{Bool, true, false, cond}
 use mathlib.Core.Option.{Option, none, some}
 use mathlib.Core.List.{List, [], _∷_, _++_}
-use Prim.Native.Nat.{ℕ, zero, suc, _+_}
-use lib.ListN.{take, drop, getD}
+use Prim.Native.Nat.{ℕ, suc, _+_}
+use lib.ListN.{take, drop}
 use Rattle.text.specs.Bytes.{Class, letter, digit, blank, sign, foreign, classOf, inName}
 use Rattle.text.specs.Tokens.{Name}
 use Rattle.text.specs.Grammar.{Tree, variable, binder, apply}

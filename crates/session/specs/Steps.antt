@@ -4,11 +4,11 @@ use mathlib.Core.Option.{Option, none, some}
 use mathlib.Core.List.{List}
 use Prim.Native.Nat.{ℕ, suc, _≤_, _<_}
 use lib.ListN.{length}
-use Rattle.term.specs.Table.{Table, tableIn}
+use Rattle.term.specs.Table.{tableIn}
 use Rattle.term.specs.Accepted.{Accepted}
 use Rattle.machine.specs.Machine.{State, step}
 use Rattle.calls.specs.Session
-use Rattle.calls.specs.Stops.{Moment, moment, room, logSize, tapeSize, ahead, behind, stopAhead, stopBehind}
+use Rattle.calls.specs.Stops.{Moment, moment, logSize, tapeSize}
 use Rattle.calls.specs.Held.{Holds}
 use Rattle.calls.specs.Calls.{longest}
 use Rattle.session.specs.Types.{sessionMeant, stopMeant}

@@ -1,7 +1,7 @@
 -- What an accepted table has, node by node. `accepted-facts` (proofs/Facts.antt) proves it of every accepted table.
 use mathlib.Core.Path.{_≡_}
 use Prim.Native.Nat.{ℕ, suc, _≤_}
-use Rattle.term.specs.Table.{Table, arity, Kind, variable, abstraction, application, nothing, kindAt, Place, bodyOf, functionOf, argumentOf, nowhere, placeAt}
+use Rattle.term.specs.Table.{Table, arity, variable, abstraction, application, nothing, kindAt, Place, bodyOf, functionOf, argumentOf, nowhere, placeAt}
 
 -- The nodes of a table are 1 to n.
 pub record IsNode (T : Table) (i : ℕ) : Type 0 where

@@ -1,18 +1,17 @@
 -- What the reader accepts and refuses, in the words of document 01. Theorems of the same names: proofs/Exactly.antt.
 use mathlib.Core.Path.{_≡_}
 use mathlib.Core.Logic.{_↔_}
-use mathlib.Core.Bool.{Bool, true, false}
-use mathlib.Core.Option.{Option, none, some}
+use mathlib.Core.Bool.{false}
 use mathlib.Core.List.{List, [], _∷_, _++_}
 use Prim.Native.Nat.{ℕ, _*_, _≤_, _<_}
 use lib.ListN.{length, drop}
 use Rattle.term.specs.Term.{Term, size}
 use Rattle.term.specs.Table.{tableOf}
-use Rattle.text.specs.Bytes.{Class, foreign, classOf}
-use Rattle.text.specs.Tokens.{Name, Token, mark, name, tokens, startsWithDigit}
+use Rattle.text.specs.Bytes.{foreign, classOf}
+use Rattle.text.specs.Tokens.{Token, mark, name, tokens, startsWithDigit}
 use Rattle.text.specs.Grammar.{Tree, Derives}
 use Rattle.text.specs.Binding.{Form, ClosedIn}
-use Rattle.text.specs.Reading.{Read, mostBytes, readOf}
+use Rattle.text.specs.Reading.{mostBytes, readOf}
 
 -- number 2 does not apply: no byte is foreign
 abbrev pub NoForeign : List ℕ → Type 0

@@ -1,7 +1,6 @@
 -- Document 01, "The text of a term": the grammar, a case for each phrase, with the tokens that spell it and the tree that it derives.
 use mathlib.Core.Path.{_≡_}
 use mathlib.Core.List.{List, [], _∷_, _++_}
-use Prim.Native.Nat.{ℕ, suc, _+_}
 use Rattle.text.specs.Bytes.{lambda, dot, opening, closing}
 use Rattle.text.specs.Tokens.{Name, Token, mark, name}
 

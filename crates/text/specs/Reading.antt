@@ -1,5 +1,5 @@
 -- What a call of the reader answers, and what it leaves in the table slice: numbers 1 to 6 of document 01 and the table.
-use mathlib.Core.Bool.{Bool, true, false, _||_}
+use mathlib.Core.Bool.{Bool, false, _||_}
 use mathlib.Core.Option.{Option, none, some}
 use mathlib.Core.List.{List, [], _∷_, _++_}
 use Prim.Native.Nat.{ℕ, _*_}
