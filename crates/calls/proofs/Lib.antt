@@ -1,7 +1,9 @@
 -- The theorems of the calls: which states are held, which call is refused, how the calls wind, and the third demand.
+pub mod Order
 pub mod Held
 pub mod Unrefused
 pub mod Stops
+pub mod Winds
 pub mod Peaks
 pub mod Runs
 pub mod Answers

@@ -8,27 +8,27 @@ use Rattle.term.specs.Table.{Table, tableIn}
 use Rattle.term.specs.Facts.{Facts}
 use Rattle.term.proofs.Facts.{accepted-facts}
 use Rattle.machine.specs.Machine.{State}
-use Rattle.calls.specs.Session.{Answer, Given}
-use Rattle.calls.specs.Stops.{moment, Room, room}
-use Rattle.calls.specs.Winding.{Run, forwardRun, backRun}
-use Rattle.calls.specs.Calls.{callNumber, wound, forwardOf, backOf}
+use Rattle.calls.specs.Session.{Outcome, Given}
+use Rattle.calls.specs.Stops.{forward, back, moment, Room, room}
+use Rattle.calls.specs.Winding.{Run, wind}
+use Rattle.calls.specs.Calls.{callNumber, Enters, wound, forwardOf, backOf}
 use Rattle.calls.specs.Demand.{Standing, leftBy, givenTo}
 use Rattle.calls.proofs.Stops.{Fits}
 use Rattle.calls.proofs.Runs.{Trail, begun, trail-none, trail-fits, trail-good, On, forward-on, Off, back-off}
-use Rattle.calls.proofs.Answers.{forward-refused, back-refused, Enters, entered, forward-winds, laidDown, held-laid-down, held-fits, laid-back}
+use Rattle.calls.proofs.Answers.{wind-refused, entered, winds, laidDown, held-laid-down, held-fits, laid-winds}
 
 -- the call back on what a call on g left, by the steps that it made
-abbrev pub backBy : Given → Answer → Answer
-backBy g a = backOf (givenTo (g .table) (g .n) (leftBy a)) (a .steps)
+abbrev pub backBy : Given → Outcome → Outcome
+backBy g o = backOf (givenTo (g .table) (g .n) (leftBy o)) (o .steps)
 
-pub record Restored (g : Given) (a b : Answer) : Type 0 where
+pub record Restored (g : Given) (a b : Outcome) : Type 0 where
   pub session-is : b .session ≡ g .session
   pub log-is : b .log ≡ g .log
   pub tape-is : b .tape ≡ g .tape
   pub steps-are : b .steps ≡ a .steps
 
 refused-trip : (g : Given) (c k : ℕ) → callNumber g ≡ some k → Restored g (forwardOf g c) (backBy g (forwardOf g c))
-refused-trip g c k e = rw (forward-refused g k e c, back-refused g k e 0) (record { session-is = refl; log-is = refl; tape-is = refl; steps-are = refl })
+refused-trip g c k e = rw (wind-refused g k forward e c, wind-refused g k back e 0) (record { session-is = refl; log-is = refl; tape-is = refl; steps-are = refl })
 
 module _ (g : Given) (c : ℕ) (s : State) (h : Enters g s) where
   abbrev T′ : Table
@@ -44,10 +44,10 @@ module _ (g : Given) (c : ℕ) (s : State) (h : Enters g s) where
   given = record { session = g .session; log = g .log; tape = g .tape }
 
   abbrev out : Run
-  out = forwardRun T′ r c (moment s p)
+  out = wind forward T′ r c (moment s p)
 
   abbrev home : Run
-  home = backRun T′ r (out .steps) (out .last)
+  home = wind back T′ r (out .steps) (out .last)
 
   facts : Facts T′
   facts = accepted-facts (g .table) (g .n) (h .accepted-table)
@@ -62,7 +62,7 @@ module _ (g : Given) (c : ℕ) (s : State) (h : Enters g s) where
   trail = rw zero-add at (on .trail)
 
   off : Off T′ r s (out .steps) (out .steps) p home
-  off = subst (λ q. Off T′ r s (out .steps) (out .steps) p (backRun T′ r (out .steps) (moment (out .last .state) q))) (sym (on .position-is))
+  off = subst (λ q. Off T′ r s (out .steps) (out .steps) p (wind back T′ r (out .steps) (moment (out .last .state) q))) (sym (on .position-is))
       (back-off T′ r s facts (h .holds .good) fits (out .steps) p trail (λ l. absurd (lt-irrefl (out .steps) l)))
 
   home-is : laidDown r (home .last) ≡ given
@@ -76,11 +76,11 @@ module _ (g : Given) (c : ℕ) (s : State) (h : Enters g s) where
 
   back-home : backBy g (wound r out) ≡ wound r home
   back-home =
-      laid-back r (out .last) (trail-fits T′ r s fits trail) (g .table) (g .n) (h .accepted-table) (trail-good T′ r s facts (h .holds .good) trail)
-      (h .short-log) (h .short-tape) (out .steps)
+      laid-winds r (out .last) (trail-fits T′ r s fits trail) (g .table) (g .n) (h .accepted-table) (trail-good T′ r s facts (h .holds .good) trail)
+      (h .short-log) (h .short-tape) back (out .steps)
 
   wound-trip : Restored g (forwardOf g c) (backBy g (forwardOf g c))
-  wound-trip = rw (forward-winds g s h c, back-home)
+  wound-trip = rw (winds g s h forward c, back-home)
       (record { session-is = ap (λ x. x .session) home-is; log-is = ap (λ x. x .log) home-is; tape-is = ap (λ x. x .tape) home-is; steps-are = off .steps-are ∙ omega arith })
 
 -- A refused call makes no step, and the call back is refused as it was.

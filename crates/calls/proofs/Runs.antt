@@ -1,44 +1,41 @@
 -- Winding along a trail of the plain machine: a run forward goes on from its end, a run back takes its last steps off again.
-use mathlib.Core.Path.{_≡_, refl, sym, ap, subst}
-use mathlib.Core.Option.{Option, none, some}
+use mathlib.Core.Path.{_≡_, refl, sym, ap, _∙_, subst}
+use mathlib.Core.Option.{none, some, Option·some-injective}
 use Prim.Native.Nat.{ℕ, zero, suc, _+_, _-_, _≤_, _<_, min}
-use native.Mathlib.Nat.{add-zero, add-suc}
+use native.Mathlib.Nat.{add-zero}
 use native.Mathlib.Omega.{arith}
 use Rattle.term.specs.Table.{Table}
 use Rattle.term.specs.Facts.{Facts}
 use Rattle.machine.specs.Machine.{State, step, stepBack, afterFrom}
 use Rattle.machine.specs.Good.{Good}
 use Rattle.machine.proofs.Reverse.{keeps-good, step-undone}
-use Rattle.calls.specs.Session.{Stop, spent, jam, far, logFull, tapeFull, answer}
-use Rattle.calls.specs.Stops.{Moment, moment, Room, greatest, stopAhead, stopBehind}
-use Rattle.calls.specs.Winding.{Run, ended, longer, wind, forwardRun, backRun}
+use Rattle.calls.specs.Session.{Stop, spent, jam, far, logFull, tapeFull, answer, refused}
+use Rattle.calls.specs.Stops.{forward, back, Moment, moment, Room, greatest, stopBefore}
+use Rattle.calls.specs.Winding.{Run, ended, longer, wind}
 use Rattle.calls.specs.Demand.{allowed}
-use Rattle.calls.proofs.Stops.{Fits, start-before-jam, no-stop-behind, Goes, goes}
+use Rattle.calls.proofs.Stops.{Fits, start-before-jam, no-halt-back, halt-before-full, no-stop-next, Goes, goes}
+use Rattle.calls.proofs.Winds.{each-run}
 
--- A run forward, from its end: stopped, or one step before a run that has the property.
+-- A run forward from its end, with what no stop says of the step.
 module _ (T : Table) (r : Room) (P : ℕ → Moment → Run → Type 0)
-    (none-left : (m : Moment) → P 0 m (ended m spent))
-    (stops : (c : ℕ) (m : Moment) (x : Stop) → stopAhead T r (suc c) m ≡ some x → P (suc c) m (ended m x))
-    (steps : (c : ℕ) (m : Moment) (run : Run) → stopAhead T r (suc c) m ≡ none → (g : Goes T r m) → P c (moment (g .next) (suc (m .position))) run → P (suc c) m (longer m run)) where
-  each-forward : (c : ℕ) (m : Moment) → P c m (forwardRun T r c m)
-  unfolding wind
-  each-forward zero m = none-left m
-  each-forward (suc c) m = by-stop (λ u. each-forward c u) (stopAhead T r (suc c) m) refl
-    where
-      by-stop : ((u : Moment) → P c u (forwardRun T r c u)) → (o : Option Stop) → stopAhead T r (suc c) m ≡ o → P (suc c) m (forwardRun T r (suc c) m)
-      by-stop more (some x) e = rw e (stops c m x e)
-      by-stop more none e =
-          let g : Goes T r m = goes T r c m e in
-          let u : Moment = moment (g .next) (suc (m .position)) in
-          rw (e, g .steps) (steps c m (forwardRun T r c u) e g (more u))
+    (none-left : (m : Moment) → P 0 m (ended T m spent))
+    (stops : (c : ℕ) (m : Moment) (x : Stop) → stopBefore forward T r (suc c) m ≡ some x → P (suc c) m (ended T m x))
+    (steps : (c : ℕ) (m : Moment) (run : Run) → stopBefore forward T r (suc c) m ≡ none → (g : Goes T r m) → P c (moment (g .next) (suc (m .position))) run → P (suc c) m (longer T m run)) where
+  each-forward : (c : ℕ) (m : Moment) → P c m (wind forward T r c m)
+  each-forward =
+      each-run forward T r P none-left stops
+      (λ c m u run e n more.
+      let g : Goes T r m = goes T r c m e in
+      let same : u ≡ moment (g .next) (suc (m .position)) = Option·some-injective _ _ (sym n ∙ rw (g .steps)) in
+      steps c m run e g (subst (λ v. P c v run) same more))
 
 -- "Position is 0 to 4,294,967,295": no run forward passes its greatest.
-pub forward-near : (T : Table) (r : Room) (c : ℕ) (m : Moment) → m .position ≤ greatest → forwardRun T r c m .last .position ≤ greatest
+pub forward-near : (T : Table) (r : Room) (c : ℕ) (m : Moment) → m .position ≤ greatest → wind forward T r c m .last .position ≤ greatest
 forward-near T r =
     each-forward T r (λ c m run. m .position ≤ greatest → run .last .position ≤ greatest) (λ m h. h) (λ c m x e h. h)
     (λ c m run e g more h. more (let n : ¬ (m .position ≡ greatest) = g .near in omega arith))
 
--- stops that are no jam and no full slice
+-- stops that are no jam, no full slice and no refusal
 abbrev pub Unhindered : Stop → Type 0
 Unhindered spent = Unit
 Unhindered jam = ⊥
@@ -47,6 +44,7 @@ Unhindered Stop.start = Unit
 Unhindered logFull = ⊥
 Unhindered tapeFull = ⊥
 Unhindered (answer i) = Unit
+Unhindered (refused k) = ⊥
 
 -- The machine comes from s₀ to s in k steps, and each state that it comes to fits the slices.
 pub data Trail (T : Table) (r : Room) (s₀ : State) : ℕ → State → Type 0 where
@@ -75,16 +73,16 @@ module _ (T : Table) (r : Room) (s₀ : State) where
     pub trail : Trail T r s₀ (k + run .steps) (run .last .state)
     pub position-is : run .last .position ≡ p + run .steps
 
-  on-here : (k p : ℕ) (s : State) (x : Stop) → Trail T r s₀ k s → On k p (ended (moment s p) x)
+  on-here : (k p : ℕ) (s : State) (x : Stop) → Trail T r s₀ k s → On k p (ended T (moment s p) x)
   on-here k p s x t = record { trail = subst (λ j. Trail T r s₀ j s) (sym (add-zero k)) t; position-is = sym (add-zero p) }
 
-  on-longer : (k p : ℕ) (m : Moment) (run : Run) → On (suc k) (suc p) run → On k p (longer m run)
+  on-longer : (k p : ℕ) (m : Moment) (run : Run) → On (suc k) (suc p) run → On k p (longer T m run)
   on-longer k p m run o = record {
     trail = subst (λ j. Trail T r s₀ j (run .last .state)) (omega arith) (o .trail);
     position-is = (let e : run .last .position ≡ suc p + run .steps = o .position-is in omega arith);
   }
 
-  pub forward-on : (c : ℕ) (m : Moment) (k : ℕ) → Trail T r s₀ k (m .state) → On k (m .position) (forwardRun T r c m)
+  pub forward-on : (c : ℕ) (m : Moment) (k : ℕ) → Trail T r s₀ k (m .state) → On k (m .position) (wind forward T r c m)
   forward-on =
       each-forward T r (λ c m run. (k : ℕ) → Trail T r s₀ k (m .state) → On k (m .position) run)
       (λ m k t. on-here k (m .position) (m .state) spent t)
@@ -92,7 +90,7 @@ module _ (T : Table) (r : Room) (s₀ : State) where
       (λ c m run e g more k t. on-longer k (m .position) m run (more (suc k) (then t (g .steps) (g .fits))))
 
   -- Its steps are those that the stops allow on the plain machine.
-  pub forward-counted : (c : ℕ) (m : Moment) → afterFrom T s₀ (m .position) ≡ some (m .state) → forwardRun T r c m .steps ≡ allowed T s₀ r c (m .position)
+  pub forward-counted : (c : ℕ) (m : Moment) → afterFrom T s₀ (m .position) ≡ some (m .state) → wind forward T r c m .steps ≡ allowed T s₀ r c (m .position)
   unfolding allowed afterFrom
   forward-counted =
       each-forward T r (λ c m run. afterFrom T s₀ (m .position) ≡ some (m .state) → run .steps ≡ allowed T s₀ r c (m .position))
@@ -107,7 +105,7 @@ module _ (T : Table) (r : Room) (s₀ : State) where
     pub position-is : run .last .position ≡ p + (k - min c k)
     pub unhindered : Unhindered (run .stop)
 
-  off-here : (c k p : ℕ) (s : State) (x : Stop) → min c k ≡ 0 → Unhindered x → Trail T r s₀ k s → Off c k p (ended (moment s (p + k)) x)
+  off-here : (c k p : ℕ) (s : State) (x : Stop) → min c k ≡ 0 → Unhindered x → Trail T r s₀ k s → Off c k p (ended T (moment s (p + k)) x)
   off-here c k p s x e h t = record {
     steps-are = sym e;
     trail = subst (λ j. Trail T r s₀ j s) (omega arith) t;
@@ -115,7 +113,7 @@ module _ (T : Table) (r : Room) (s₀ : State) where
     unhindered = h;
   }
 
-  off-longer : (c k p : ℕ) (m : Moment) (run : Run) → Off c k p run → Off (suc c) (suc k) p (longer m run)
+  off-longer : (c k p : ℕ) (m : Moment) (run : Run) → Off c k p run → Off (suc c) (suc k) p (longer T m run)
   off-longer c k p m run o = record {
     steps-are = (let e : run .steps ≡ min c k = o .steps-are in omega arith);
     trail = subst (λ j. Trail T r s₀ j (run .last .state)) (omega arith) (o .trail);
@@ -125,23 +123,27 @@ module _ (T : Table) (r : Room) (s₀ : State) where
 
   module _ (F : Facts T) (good : Good T s₀) (fits : Fits r s₀) where
     -- It meets the start only where the trail began at position 0.
-    pub back-off : (c p : ℕ) {k : ℕ} {s : State} → Trail T r s₀ k s → (k < c → p ≡ 0) → Off c k p (backRun T r c (moment s (p + k)))
+    pub back-off : (c p : ℕ) {k : ℕ} {s : State} → Trail T r s₀ k s → (k < c → p ≡ 0) → Off c k p (wind back T r c (moment s (p + k)))
     unfolding wind
     back-off zero p {k} {s} t h = off-here 0 k p s spent (omega arith) tt t
     back-off (suc c) p begun h = rw stops (off-here (suc c) 0 p s₀ Stop.start (omega arith) tt begun)
       where
-        stops : stopBehind T r (suc c) (moment s₀ (p + 0)) ≡ some Stop.start
-        stops = let e : p ≡ 0 = h (omega arith) in rw e (start-before-jam T r c s₀)
+        stops : stopBefore back T r (suc c) (moment s₀ (p + 0)) ≡ some Stop.start
+        stops =
+            let e : p ≡ 0 = h (omega arith) in
+            halt-before-full back T r (suc c) (moment s₀ (p + 0)) Stop.start (start-before-jam T c (moment s₀ (p + 0)) (omega arith))
     back-off (suc c) p (then {k = k} {u = u} {s = s} t e f) h =
         rw (passes, undone)
-        (subst (λ q. Off (suc c) (suc k) p (longer (moment s (p + suc k)) (backRun T r c (moment u q)))) lower
-        (off-longer c k p (moment s (p + suc k)) (backRun T r c (moment u (p + k))) (back-off c p t (λ l. h (omega arith)))))
+        (subst (λ q. Off (suc c) (suc k) p (longer T (moment s (p + suc k)) (wind back T r c (moment u q)))) lower
+        (off-longer c k p (moment s (p + suc k)) (wind back T r c (moment u (p + k))) (back-off c p t (λ l. h (omega arith)))))
       where
         undone : stepBack T s ≡ some u
         undone = step-undone T F u s (trail-good F good t) e
 
-        passes : stopBehind T r (suc c) (moment s (p + suc k)) ≡ none
-        passes = rw (add-suc p k) (no-stop-behind T r c s (p + k) u undone (trail-fits fits t))
+        passes : stopBefore back T r (suc c) (moment s (p + suc k)) ≡ none
+        passes =
+            no-stop-next back T r (suc c) (moment s (p + suc k)) (no-halt-back T c (moment s (p + suc k)) (λ z. omega arith) u undone)
+            (moment u (p + suc k - 1)) (rw undone) (trail-fits fits t)
 
         lower : p + k ≡ p + suc k - 1
         lower = omega arith

@@ -1,118 +1,148 @@
 -- The stops in their order: each comes before those after it, whatever these would say, and no stop means that there is a step and that it fits.
-use mathlib.Core.Path.{_≡_, refl, sym, _∙_}
+use mathlib.Core.Path.{_≡_, refl, sym, ap, _∙_, subst}
 use mathlib.Core.Bool.{Bool, true, false}
 use mathlib.Core.Option.{Option, none, some, Option·some-ne-none}
+use mathlib.Core.List.{List, [], _∷_, _++_}
 use Prim.Native.Nat.{ℕ, suc, _<_, _≤_}
 use native.Mathlib.Omega.{arith}
 use lib.Dec.{eqb·suc-zero}
 use borrow.Author.Tests.{eq-eqb, ne-eqb, lt-ltb, le-ltb}
+use Rattle.term.specs.Choice.{Test, _⇒_, first, ifSome}
 use Rattle.term.specs.Table.{Table}
 use Rattle.machine.specs.Machine.{State, step, stepBack}
-use Rattle.calls.specs.Session.{Stop, spent, jam, far, start, logFull, tapeFull, answer}
-use Rattle.calls.specs.Stops.{Moment, moment, Room, greatest, logSize, tapeSize, isAnswer, longerThan, stopAhead, stopBehind}
+use Rattle.calls.specs.Session.{Stop, spent, jam, far, start, logFull, tapeFull, answer, refused}
+use Rattle.calls.proofs.Order.{first-of-both}
+use Rattle.calls.specs.Stops.{Way, forward, back, Moment, moment, Room, greatest, logSize, tapeSize, nextBy, isAnswer, haltTests, haltBefore, fullTests, stopBefore}
 
 -- a state's lists are no longer than the slices
 pub record Fits (r : Room) (s : State) : Type 0 where
   pub log-fits : logSize s ≤ r .log
   pub tape-fits : tapeSize s ≤ r .tape
 
--- A list is too long exactly if it has more words than its slice.
-not-too-long : (k : ℕ) (size : State → ℕ) (m : Moment) → size (m .state) ≤ k → longerThan k size (some m) ≡ false
-not-too-long k size m h = le-ltb k (size (m .state)) h
-
-too-long : (k : ℕ) (size : State → ℕ) (m : Moment) → k < size (m .state) → longerThan k size (some m) ≡ true
-too-long k size m h = lt-ltb k (size (m .state)) h
-
-module _ (T : Table) (r : Room) where
-  -- before a step forward
-  pub spent-first : (m : Moment) → stopAhead T r 0 m ≡ some spent
-  unfolding stopAhead
-  spent-first m = refl
+-- before a step forward
+module _ (T : Table) where
+  pub spent-first : (way : Way) (m : Moment) → haltBefore way T 0 m ≡ some spent
+  spent-first forward m = refl
+  spent-first back m = refl
 
   module _ (c : ℕ) (m : Moment) where
-    pub answer-before-jam : isAnswer T (m .state) ≡ true → stopAhead T r (suc c) m ≡ some (answer (m .state .node))
-    unfolding stopAhead
+    pub answer-before-jam : isAnswer T (m .state) ≡ true → haltBefore forward T (suc c) m ≡ some (answer (m .state .node))
     answer-before-jam e = rw (eqb·suc-zero c, e)
 
     module _ (unanswered : isAnswer T (m .state) ≡ false) where
-      pub jam-before-far : step T (m .state) ≡ none → stopAhead T r (suc c) m ≡ some jam
-      unfolding stopAhead
+      pub jam-before-far : step T (m .state) ≡ none → haltBefore forward T (suc c) m ≡ some jam
       jam-before-far e = rw (eqb·suc-zero c, unanswered, e)
 
       module _ (u : State) (steps : step T (m .state) ≡ some u) where
-        pub far-before-full : m .position ≡ greatest → stopAhead T r (suc c) m ≡ some far
-        unfolding stopAhead
+        pub far-before-full : m .position ≡ greatest → haltBefore forward T (suc c) m ≡ some far
         far-before-full e = rw (eqb·suc-zero c, unanswered, steps, eq-eqb (m .position) greatest e)
 
-        pub log-full-ahead : (m .position ≡ greatest → ⊥) → r .log < logSize u → stopAhead T r (suc c) m ≡ some logFull
-        unfolding stopAhead
-        log-full-ahead near h = rw (eqb·suc-zero c, unanswered, steps, ne-eqb (m .position) greatest near, too-long (r .log) logSize (moment u (suc (m .position))) h)
+        pub no-halt-forward : (m .position ≡ greatest → ⊥) → haltBefore forward T (suc c) m ≡ none
+        no-halt-forward near = rw (eqb·suc-zero c, unanswered, steps, ne-eqb (m .position) greatest near)
 
-        pub tape-full-ahead : (m .position ≡ greatest → ⊥) → logSize u ≤ r .log → r .tape < tapeSize u → stopAhead T r (suc c) m ≡ some tapeFull
-        unfolding stopAhead
-        tape-full-ahead near g h =
-            let v : Moment = moment u (suc (m .position)) in
-            rw (eqb·suc-zero c, unanswered, steps, ne-eqb (m .position) greatest near, not-too-long (r .log) logSize v g, too-long (r .tape) tapeSize v h)
+    -- before a step back
+    pub start-before-jam : m .position ≡ 0 → haltBefore back T (suc c) m ≡ some start
+    start-before-jam e = rw (eqb·suc-zero c, eq-eqb (m .position) 0 e)
 
-        pub no-stop-ahead : (m .position ≡ greatest → ⊥) → Fits r u → stopAhead T r (suc c) m ≡ none
-        unfolding stopAhead
-        no-stop-ahead near f =
-            let v : Moment = moment u (suc (m .position)) in
-            rw (eqb·suc-zero c, unanswered, steps, ne-eqb (m .position) greatest near, not-too-long (r .log) logSize v (f .log-fits), not-too-long (r .tape) tapeSize v (f .tape-fits))
+    module _ (past : m .position ≡ 0 → ⊥) where
+      pub jam-before-full-back : stepBack T (m .state) ≡ none → haltBefore back T (suc c) m ≡ some jam
+      jam-before-full-back e = rw (eqb·suc-zero c, ne-eqb (m .position) 0 past, e)
 
-  -- before a step back
-  pub spent-first-back : (m : Moment) → stopBehind T r 0 m ≡ some spent
-  unfolding stopBehind
-  spent-first-back m = refl
+      pub no-halt-back : (u : State) → stepBack T (m .state) ≡ some u → haltBefore back T (suc c) m ≡ none
+      no-halt-back u e = rw (eqb·suc-zero c, ne-eqb (m .position) 0 past, e)
 
-  module _ (c : ℕ) (s : State) where
-    pub start-before-jam : stopBehind T r (suc c) (moment s 0) ≡ some start
-    unfolding stopBehind
-    start-before-jam = rw (eqb·suc-zero c)
+-- either way, full slices last
+module _ (way : Way) (T : Table) (r : Room) (count : ℕ) (m : Moment) where
+  stop-by : stopBefore way T r count m ≡ ifSome (haltBefore way T count m) (λ x. some x) (λ _. first (fullTests r (nextBy way T m)))
+  unfolding stopBefore
+  stop-by = first-of-both (haltTests way T count m) (fullTests r (nextBy way T m))
 
-    pub jam-before-full-back : (p : ℕ) → stepBack T s ≡ none → stopBehind T r (suc c) (moment s (suc p)) ≡ some jam
-    unfolding stopBehind
-    jam-before-full-back p e = rw (eqb·suc-zero c, eqb·suc-zero p, e)
+  pub halt-before-full : (x : Stop) → haltBefore way T count m ≡ some x → stopBefore way T r count m ≡ some x
+  halt-before-full x e = stop-by ∙ ap (λ o. ifSome o (λ x. some x) (λ _. first (fullTests r (nextBy way T m)))) e
 
-    module _ (p : ℕ) (u : State) (steps : stepBack T s ≡ some u) where
-      pub log-full-behind : r .log < logSize u → stopBehind T r (suc c) (moment s (suc p)) ≡ some logFull
-      unfolding stopBehind
-      log-full-behind h = rw (eqb·suc-zero c, eqb·suc-zero p, steps, too-long (r .log) logSize (moment u p) h)
+  module _ (free : haltBefore way T count m ≡ none) (u : Moment) (next : nextBy way T m ≡ some u) where
+    full-by : stopBefore way T r count m ≡ first (fullTests r (some u))
+    full-by =
+        stop-by
+        ∙ ap (λ o. ifSome o (λ x. some x) (λ _. first (fullTests r (nextBy way T m)))) free
+        ∙ ap (λ o. first (fullTests r o)) next
 
-      pub tape-full-behind : logSize u ≤ r .log → r .tape < tapeSize u → stopBehind T r (suc c) (moment s (suc p)) ≡ some tapeFull
-      unfolding stopBehind
-      tape-full-behind g h = rw (eqb·suc-zero c, eqb·suc-zero p, steps, not-too-long (r .log) logSize (moment u p) g, too-long (r .tape) tapeSize (moment u p) h)
+    pub log-full-next : r .log < logSize (u .state) → stopBefore way T r count m ≡ some logFull
+    log-full-next h = full-by ∙ rw (lt-ltb (r .log) (logSize (u .state)) h)
 
-      pub no-stop-behind : Fits r u → stopBehind T r (suc c) (moment s (suc p)) ≡ none
-      unfolding stopBehind
-      no-stop-behind f = rw (eqb·suc-zero c, eqb·suc-zero p, steps, not-too-long (r .log) logSize (moment u p) (f .log-fits), not-too-long (r .tape) tapeSize (moment u p) (f .tape-fits))
+    pub tape-full-next : logSize (u .state) ≤ r .log → r .tape < tapeSize (u .state) → stopBefore way T r count m ≡ some tapeFull
+    tape-full-next g h = full-by ∙ rw (le-ltb (r .log) (logSize (u .state)) g, lt-ltb (r .tape) (tapeSize (u .state)) h)
 
-  -- what no stop says
+    pub no-stop-next : Fits r (u .state) → stopBefore way T r count m ≡ none
+    no-stop-next f = full-by ∙ rw (le-ltb (r .log) (logSize (u .state)) (f .log-fits), le-ltb (r .tape) (tapeSize (u .state)) (f .tape-fits))
+
+-- No stop is a refusal.
+abbrev pub IsStop : Stop → Type 0
+IsStop spent = Unit
+IsStop jam = Unit
+IsStop far = Unit
+IsStop start = Unit
+IsStop logFull = Unit
+IsStop tapeFull = Unit
+IsStop (answer i) = Unit
+IsStop (refused k) = ⊥
+
+abbrev AllStops : List (Test Stop) → Type 0
+AllStops [] = Unit
+AllStops ((b ⇒ x) ∷ ts) = IsStop x × AllStops ts
+
+abbrev IsStopIf : Option Stop → Type 0
+IsStopIf none = Unit
+IsStopIf (some x) = IsStop x
+
+first-is-stop : (ts : List (Test Stop)) → AllStops ts → IsStopIf (first ts)
+first-is-stop [] h = tt
+first-is-stop ((true ⇒ x) ∷ ts) h = h .0
+first-is-stop ((false ⇒ x) ∷ ts) h = first-is-stop ts (h .1)
+
+pub stop-is-stop : (way : Way) (T : Table) (r : Room) (count : ℕ) (m : Moment) (x : Stop) → stopBefore way T r count m ≡ some x → IsStop x
+unfolding stopBefore
+stop-is-stop forward T r count m x e =
+    subst IsStopIf e (first-is-stop (haltTests forward T count m ++ fullTests r (nextBy forward T m)) (tt, (tt, (tt, (tt, (tt, (tt, tt)))))))
+stop-is-stop back T r count m x e =
+    subst IsStopIf e (first-is-stop (haltTests back T count m ++ fullTests r (nextBy back T m)) (tt, (tt, (tt, (tt, (tt, tt))))))
+
+-- what no stop before a step forward says
+module _ (T : Table) (r : Room) where
   pub record Goes (m : Moment) : Type 0 where
     pub next : State
     pub steps : step T (m .state) ≡ some next
     pub fits : Fits r next
     pub near : m .position ≡ greatest → ⊥
 
-  pub goes : (c : ℕ) (m : Moment) → stopAhead T r (suc c) m ≡ none → Goes m
+  pub goes : (c : ℕ) (m : Moment) → stopBefore forward T r (suc c) m ≡ none → Goes m
   goes c m e = by-answer (isAnswer T (m .state)) refl
     where
-      clash : (x : Stop) → stopAhead T r (suc c) m ≡ some x → ⊥
+      clash : (x : Stop) → stopBefore forward T r (suc c) m ≡ some x → ⊥
       clash x h = Option·some-ne-none x (sym h ∙ e)
 
+      halts : (x : Stop) → haltBefore forward T (suc c) m ≡ some x → ⊥
+      halts x h = clash x (halt-before-full forward T r (suc c) m x h)
+
       by-step : isAnswer T (m .state) ≡ false → (o : Option State) → step T (m .state) ≡ o → Goes m
-      by-step a none n = absurd (clash jam (jam-before-far c m a n))
+      by-step a none n = absurd (halts jam (jam-before-far T c m a n))
       by-step a (some u) n = record { next = u; steps = n; fits = record { log-fits = short-log; tape-fits = short-tape }; near = near }
         where
           near : m .position ≡ greatest → ⊥
-          near h = clash far (far-before-full c m a u n h)
+          near h = halts far (far-before-full T c m a u n h)
+
+          free : haltBefore forward T (suc c) m ≡ none
+          free = no-halt-forward T c m a u n near
+
+          next : nextBy forward T m ≡ some (moment u (suc (m .position)))
+          next = rw n
 
           short-log : logSize u ≤ r .log
-          short-log = let h : ¬ (r .log < logSize u) = λ h. clash logFull (log-full-ahead c m a u n near h) in omega arith
+          short-log = let h : ¬ (r .log < logSize u) = λ h. clash logFull (log-full-next forward T r (suc c) m free _ next h) in omega arith
 
           short-tape : tapeSize u ≤ r .tape
-          short-tape = let h : ¬ (r .tape < tapeSize u) = λ h. clash tapeFull (tape-full-ahead c m a u n near short-log h) in omega arith
+          short-tape = let h : ¬ (r .tape < tapeSize u) = λ h. clash tapeFull (tape-full-next forward T r (suc c) m free _ next short-log h) in omega arith
 
       by-answer : (b : Bool) → isAnswer T (m .state) ≡ b → Goes m
-      by-answer true a = absurd (clash (answer (m .state .node)) (answer-before-jam c m a))
+      by-answer true a = absurd (halts (answer (m .state .node)) (answer-before-jam T c m a))
       by-answer false a = by-step a (step T (m .state)) refl

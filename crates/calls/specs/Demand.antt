@@ -8,13 +8,15 @@ use lib.Dec.{leb}
 use Rattle.term.specs.Choice.{ifSome, choose}
 use Rattle.term.specs.Table.{Table, tableIn}
 use Rattle.term.specs.Accepted.{Accepted}
-use Rattle.machine.specs.Machine.{State, start, afterFrom}
-use Rattle.calls.specs.Session.{Session, Stop, jam, logFull, tapeFull, stopped, refused, Answer, Opening, Given}
-use Rattle.calls.specs.Stops.{moment, Room, room, stopAhead}
-use Rattle.calls.specs.Calls.{longest, sessionAt, logSlice, tapeSlice, openOf, forwardOf, backOf, goToOf}
+use Rattle.machine.specs.Machine.{State, startState, afterFrom}
+use Rattle.calls.specs.Session.{Session, Stop, jam, logFull, tapeFull, refused, Outcome, Opening, Given}
+use Rattle.calls.specs.Stops.{Way, forward, back, moment, Room, room, stopBefore}
+use Rattle.calls.specs.Calls.{longest, sessionAt, logSlice, tapeSlice, openOf, windOf, goToOf}
 
+-- The calls of a list: by a count forward or back, and go-to.
 pub data Move : Type 0 where
-  forward back go-to : Move
+  by : Way → Move
+  go-to : Move
 
 -- A call of the list: its own gets the session and slices that stand, and brings a slice that has the opened table;
 -- another's gets whatever it is given.
@@ -22,15 +24,14 @@ pub data Call : Type 0 where
   own : Move → ℕ → List ℕ → Call
   other : Move → ℕ → Given → Call
 
-abbrev pub answerTo : Move → Given → ℕ → Answer
-answerTo forward g c = forwardOf g c
-answerTo back g c = backOf g c
-answerTo go-to g q = goToOf g q
+abbrev pub outcomeOf : Move → Given → ℕ → Outcome
+outcomeOf (by way) g c = windOf way g c
+outcomeOf go-to g q = goToOf g q
 
 -- "A call given another table, another n, another session or other slices stands there only as a refused one."
 abbrev pub Permitted : List ℕ → ℕ → Call → Type 0
 Permitted w n (own m c u) = take (5 * n) u ≡ take (5 * n) w
-Permitted w n (other m c g) = (k : ℕ) × (answerTo m g c .outcome ≡ refused k)
+Permitted w n (other m c g) = (k : ℕ) × (outcomeOf m g c .stop ≡ refused k)
 
 abbrev pub AllPermitted : List ℕ → ℕ → List Call → Type 0
 AllPermitted w n [] = Unit
@@ -45,46 +46,45 @@ pub record Standing : Type 0 where
 abbrev pub leftByOpen : Opening → Standing
 leftByOpen o = record { session = o .session; log = o .log; tape = o .tape }
 
-abbrev pub leftBy : Answer → Standing
-leftBy a = record { session = a .session; log = a .log; tape = a .tape }
+abbrev pub leftBy : Outcome → Standing
+leftBy o = record { session = o .session; log = o .log; tape = o .tape }
 
 abbrev pub givenTo : List ℕ → ℕ → Standing → Given
 givenTo u n st = record { table = u; n = n; session = st .session; log = st .log; tape = st .tape }
 
 -- "The list goes on with what stood before" a refused call, and with what each of its own left.
 abbrev pub standingAfter : ℕ → Standing → Call → Standing
-standingAfter n st (own m c u) = leftBy (answerTo m (givenTo u n st) c)
+standingAfter n st (own m c u) = leftBy (outcomeOf m (givenTo u n st) c)
 standingAfter n st (other m c g) = st
 
 -- a call that goes back from p
 abbrev pub GoesBack : Move → ℕ → ℕ → Type 0
-GoesBack forward c p = ⊥
-GoesBack back c p = Unit
+GoesBack (by forward) c p = ⊥
+GoesBack (by back) c p = Unit
 GoesBack go-to q p = q < p
 
 -- A call of the list's own answers the steps that it added to p or took off; it is not refused, and going back it ends in no jam and no full slice.
-pub record OwnCall (p q : ℕ) (m : Move) (c : ℕ) (a : Answer) : Type 0 where
-  pub steps-are : a .steps ≡ (q - p) + (p - q)
-  pub stop : Stop
-  pub stopped-by : a .outcome ≡ stopped stop
-  pub back-unjammed : GoesBack m c p → stop ≡ jam → ⊥
-  pub back-log-fits : GoesBack m c p → stop ≡ logFull → ⊥
-  pub back-tape-fits : GoesBack m c p → stop ≡ tapeFull → ⊥
+pub record OwnCall (p q : ℕ) (m : Move) (c : ℕ) (o : Outcome) : Type 0 where
+  pub steps-are : o .steps ≡ (q - p) + (p - q)
+  pub unrefused : (k : ℕ) → o .stop ≡ refused k → ⊥
+  pub back-unjammed : GoesBack m c p → o .stop ≡ jam → ⊥
+  pub back-log-fits : GoesBack m c p → o .stop ≡ logFull → ⊥
+  pub back-tape-fits : GoesBack m c p → o .stop ≡ tapeFull → ⊥
 
 -- A refused call gives back the session and both slices that it was given, word for word, and makes no step.
-pub record RefusedCall (g : Given) (a : Answer) : Type 0 where
-  pub session-is : a .session ≡ g .session
-  pub log-is : a .log ≡ g .log
-  pub tape-is : a .tape ≡ g .tape
-  pub no-steps : a .steps ≡ 0
-  pub no-peak : a .peak ≡ 0
+pub record RefusedCall (g : Given) (o : Outcome) : Type 0 where
+  pub session-is : o .session ≡ g .session
+  pub log-is : o .log ≡ g .log
+  pub tape-is : o .tape ≡ g .tape
+  pub no-steps : o .steps ≡ 0
+  pub no-peak : o .peak ≡ 0
 
--- The plain machine alone, on the table T with slices of the lengths in r: from a state s₀ at position 0, which is `start` below.
+-- The plain machine alone, on the table T with slices of the lengths in r: from a state s₀ at position 0, which is `startState` below.
 module _ (T : Table) (s₀ : State) (r : Room) where
   -- "The steps that the stops allow from p are counted on the plain machine alone: the tests are put to its state after p steps, .. and again after each step,
   -- with the position one higher and the count one lower." Where the machine makes no p steps there is no state to go on from.
   abbrev pub stopAfter : ℕ → ℕ → Option Stop
-  stopAfter count p = ifSome (afterFrom T s₀ p) (λ s. stopAhead T r count (moment s p)) (λ _. some jam)
+  stopAfter count p = ifSome (afterFrom T s₀ p) (λ s. stopBefore forward T r count (moment s p)) (λ _. some jam)
 
   unfoldable pub allowed : ℕ → ℕ → ℕ
   allowed zero p = 0
@@ -92,8 +92,8 @@ module _ (T : Table) (s₀ : State) (r : Room) where
 
   -- Where a call of the list's own takes p: a call back by m takes off min m p, and go-to is the one or the other.
   abbrev pub positionBy : Move → ℕ → ℕ → ℕ
-  positionBy forward c p = p + allowed c p
-  positionBy back c p = p - min c p
+  positionBy (by forward) c p = p + allowed c p
+  positionBy (by back) c p = p - min c p
   positionBy go-to q p = choose (leb p q) (λ _. p + allowed (q - p) p) (λ _. p - min (p - q) p)
 
   abbrev pub positionAfter : ℕ → Call → ℕ
@@ -109,8 +109,8 @@ module _ (T : Table) (s₀ : State) (r : Room) where
     pub tape-is : st .tape ≡ tapeSlice r (moment state p)
 
   abbrev pub AsDemanded : ℕ → ℕ → Standing → Call → Type 0
-  AsDemanded n p st (own m c u) = OwnCall p (positionBy m c p) m c (answerTo m (givenTo u n st) c)
-  AsDemanded n p st (other m c g) = RefusedCall g (answerTo m g c)
+  AsDemanded n p st (own m c u) = OwnCall p (positionBy m c p) m c (outcomeOf m (givenTo u n st) c)
+  AsDemanded n p st (other m c g) = RefusedCall g (outcomeOf m g c)
 
   -- Before each call of the list and after the last, what stands is the plain machine's after p steps, p being counted as above.
   unfoldable pub Demanded : ℕ → List Call → ℕ → Standing → Type 0
@@ -122,4 +122,4 @@ abbrev pub ThirdDemand : Type 0
 ThirdDemand =
     (w : List ℕ) (n : ℕ) (ls ts : List ℕ) → Accepted w n → length ls ≤ longest → length ts ≤ longest
     → (openOf w n ls ts .refusal ≡ 0)
-    × ((cs : List Call) → AllPermitted w n cs → Demanded (tableIn w n) start (room ls ts) n cs 0 (leftByOpen (openOf w n ls ts)))
+    × ((cs : List Call) → AllPermitted w n cs → Demanded (tableIn w n) startState (room ls ts) n cs 0 (leftByOpen (openOf w n ls ts)))

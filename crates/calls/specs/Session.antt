@@ -1,4 +1,4 @@
--- Document 01, "A session and its calls": what a session carries, and what each call answers.
+-- Document 01, "A session and its calls": what a session carries, and what each call is given and answers.
 use mathlib.Core.List.{List}
 use Prim.Native.Nat.{ℕ}
 use Rattle.machine.specs.Machine.{Dir}
@@ -11,21 +11,17 @@ pub record Session : Type 0 where
   pub logLength : ℕ
   pub tapeLength : ℕ
 
--- "A stop is one of several named cases, the answer case carrying its node."
+-- "A stop is one of several named cases, the answer case carrying its node." "A refusal's number comes instead of a stop", in its place.
 pub data Stop : Type 0 where
   spent jam far start logFull tapeFull : Stop
   answer : ℕ → Stop
-
--- "A refusal's number comes instead of a stop."
-pub data Outcome : Type 0 where
-  stopped : Stop → Outcome
-  refused : ℕ → Outcome
+  refused : ℕ → Stop
 
 -- What forward, back and go-to answer, "the session, the steps made, the stop, and the peak", and both slices after the call.
-pub record Answer : Type 0 where
+pub record Outcome : Type 0 where
   pub session : Session
   pub steps : ℕ
-  pub outcome : Outcome
+  pub stop : Stop
   pub peak : ℕ
   pub log : List ℕ
   pub tape : List ℕ

@@ -1,15 +1,19 @@
 -- The stops before a step forward and before a step back, in the order of document 01, "A session and its calls".
 use mathlib.Core.Bool.{Bool, true, false}
 use mathlib.Core.Option.{Option, none, some}
-use mathlib.Core.List.{List, [], _∷_}
+use mathlib.Core.List.{List, [], _∷_, _++_}
 use Prim.Native.Nat.{ℕ, suc, _-_}
 use lib.ListN.{length}
 use lib.Dec.{ltb, eqb}
-use Rattle.term.specs.Choice.{_⇒_, first, _>>=_, isNone}
+use Rattle.term.specs.Choice.{Test, _⇒_, first, _>>=_, isNone}
 use Rattle.term.specs.Table.{Table, Kind, variable, abstraction, application, nothing, kindAt}
 use Rattle.machine.specs.Entries.{logWords, Tape, tapeWords}
-use Rattle.machine.specs.Machine.{Dir, down, up, State, step, stepBack}
+use Rattle.machine.specs.Machine.{Dir, down, up, State, startState, step, stepBack}
 use Rattle.calls.specs.Session.{Stop, spent, jam, far, start, logFull, tapeFull, answer}
+
+-- which way a call winds
+pub data Way : Type 0 where
+  forward back : Way
 
 -- the machine's state, and its position
 pub record Moment : Type 0 where
@@ -18,6 +22,10 @@ pub record Moment : Type 0 where
 
 abbrev pub moment : State → ℕ → Moment
 moment s p = record { state = s; position = p }
+
+-- "the start state at position 0"
+abbrev pub startMoment : Moment
+startMoment = moment startState 0
 
 -- the lengths of the lent slices
 pub record Room : Type 0 where
@@ -38,12 +46,10 @@ logSize s = length (logWords (s .log))
 abbrev pub tapeSize : State → ℕ
 tapeSize s = length (tapeWords (s .tape))
 
--- One step forward and one step back, each with its position.
-abbrev pub ahead : Table → Moment → Option Moment
-ahead T m = step T (m .state) >>= λ u. some (moment u (suc (m .position)))
-
-abbrev pub behind : Table → Moment → Option Moment
-behind T m = stepBack T (m .state) >>= λ u. some (moment u (m .position - 1))
+-- One step either way, with its position.
+abbrev pub nextBy : Way → Table → Moment → Option Moment
+nextBy forward T m = step T (m .state) >>= λ u. some (moment u (suc (m .position)))
+nextBy back T m = stepBack T (m .state) >>= λ u. some (moment u (m .position - 1))
 
 -- "down at an abstraction with an empty tape"
 abbrev pub isAnswerBy : Kind → Dir → Tape → Bool
@@ -57,32 +63,35 @@ isAnswerBy nothing d t = false
 abbrev pub isAnswer : Table → State → Bool
 isAnswer T s = isAnswerBy (kindAt T (s .node)) (s .dir) (s .tape)
 
+-- What ends a walk before a step, but for a full slice.
+abbrev pub haltTests : Way → Table → ℕ → Moment → List (Test Stop)
+-- "Before each step forward, in this order"
+haltTests forward T count m =
+    (eqb count 0 ⇒ spent)
+    ∷ (isAnswer T (m .state) ⇒ answer (m .state .node))
+    ∷ (isNone (nextBy forward T m) ⇒ jam)
+    ∷ (eqb (m .position) greatest ⇒ far)
+    ∷ []
+-- "Before each step back"
+haltTests back T count m =
+    (eqb count 0 ⇒ spent)
+    ∷ (eqb (m .position) 0 ⇒ start)
+    ∷ (isNone (nextBy back T m) ⇒ jam)
+    ∷ []
+
+-- the first of them that applies
+abbrev pub haltBefore : Way → Table → ℕ → Moment → Option Stop
+haltBefore way T count m = first (haltTests way T count m)
+
 -- "the next log or tape longer than its slice"
 abbrev pub longerThan : ℕ → (State → ℕ) → Option Moment → Bool
 longerThan r size none = false
 longerThan r size (some m) = ltb r (size (m .state))
 
--- "Before each step forward, in this order"
-unfoldable pub stopAhead : Table → Room → ℕ → Moment → Option Stop
-stopAhead T r count m =
-    first (
-    (eqb count 0 ⇒ spent)
-    ∷ (isAnswer T (m .state) ⇒ answer (m .state .node))
-    ∷ (isNone (ahead T m) ⇒ jam)
-    ∷ (eqb (m .position) greatest ⇒ far)
-    ∷ (longerThan (r .log) logSize (ahead T m) ⇒ logFull)
-    ∷ (longerThan (r .tape) tapeSize (ahead T m) ⇒ tapeFull)
-    ∷ []
-    )
+-- "log full or tape full", tested last, either way
+abbrev pub fullTests : Room → Option Moment → List (Test Stop)
+fullTests r next = (longerThan (r .log) logSize next ⇒ logFull) ∷ (longerThan (r .tape) tapeSize next ⇒ tapeFull) ∷ []
 
--- "Before each step back"
-unfoldable pub stopBehind : Table → Room → ℕ → Moment → Option Stop
-stopBehind T r count m =
-    first (
-    (eqb count 0 ⇒ spent)
-    ∷ (eqb (m .position) 0 ⇒ start)
-    ∷ (isNone (behind T m) ⇒ jam)
-    ∷ (longerThan (r .log) logSize (behind T m) ⇒ logFull)
-    ∷ (longerThan (r .tape) tapeSize (behind T m) ⇒ tapeFull)
-    ∷ []
-    )
+-- all of them in their order
+unfoldable pub stopBefore : Way → Table → Room → ℕ → Moment → Option Stop
+stopBefore way T r count m = first (haltTests way T count m ++ fullTests r (nextBy way T m))

@@ -1,15 +1,14 @@
 -- The steps of one call: how far it goes, how it stops, and its peak.
-use mathlib.Core.Option.{Option}
 use Prim.Native.Nat.{ℕ, zero, suc, _+_, max}
 use Rattle.term.specs.Choice.{ifSome}
 use Rattle.term.specs.Table.{Table}
 use Rattle.machine.specs.Machine.{State}
 use Rattle.calls.specs.Session.{Stop, spent, jam}
-use Rattle.calls.specs.Stops.{Moment, Room, logSize, tapeSize, ahead, behind, stopAhead, stopBehind}
+use Rattle.calls.specs.Stops.{Way, Moment, Room, logSize, tapeSize, nextBy, stopBefore}
 
--- "the most words in log and tape together": what a peak is the greatest of
-abbrev pub weight : State → ℕ
-weight s = logSize s + tapeSize s
+-- "the most words in log and tape together": what a peak is the greatest of, on a table
+abbrev pub weight : Table → State → ℕ
+weight T s = logSize s + tapeSize s
 
 -- where a call ends, the steps made, the stop, and the peak "over the states stood in, first and last included"
 pub record Run : Type 0 where
@@ -18,23 +17,17 @@ pub record Run : Type 0 where
   pub stop : Stop
   pub peak : ℕ
 
-abbrev pub ended : Moment → Stop → Run
-ended m x = record { last = m; steps = 0; stop = x; peak = weight (m .state) }
+abbrev pub ended : Table → Moment → Stop → Run
+ended T m x = record { last = m; steps = 0; stop = x; peak = weight T (m .state) }
 
 -- a run with one step before it, from m
-abbrev pub longer : Moment → Run → Run
-longer m r = record { last = r .last; steps = suc (r .steps); stop = r .stop; peak = max (weight (m .state)) (r .peak) }
+abbrev pub longer : Table → Moment → Run → Run
+longer T m r = record { last = r .last; steps = suc (r .steps); stop = r .stop; peak = max (weight T (m .state)) (r .peak) }
 
 -- Steps until the first stop: the tests are put before each step, with the count one lower each time. (A count of 0 is spent, the first test of both lists; no step is a jam, one of them.)
-unfoldable pub wind : (Moment → Option Moment) → (ℕ → Moment → Option Stop) → ℕ → Moment → Run
-wind next stop zero m = ended m spent
-wind next stop (suc count) m =
-    ifSome (stop (suc count) m)
-    (λ x. ended m x)
-    (λ _. ifSome (next m) (λ u. longer m (wind next stop count u)) (λ _. ended m jam))
-
-abbrev pub forwardRun : Table → Room → ℕ → Moment → Run
-forwardRun T r count m = wind (λ u. ahead T u) (λ c u. stopAhead T r c u) count m
-
-abbrev pub backRun : Table → Room → ℕ → Moment → Run
-backRun T r count m = wind (λ u. behind T u) (λ c u. stopBehind T r c u) count m
+unfoldable pub wind : Way → Table → Room → ℕ → Moment → Run
+wind way T r zero m = ended T m spent
+wind way T r (suc count) m =
+    ifSome (stopBefore way T r (suc count) m)
+    (λ x. ended T m x)
+    (λ _. ifSome (nextBy way T m) (λ u. longer T m (wind way T r count u)) (λ _. ended T m jam))

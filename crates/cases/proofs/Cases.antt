@@ -1,4 +1,4 @@
--- T1 to T12 and the example's states are what document 01 says: both lists compute to the same.
+-- T1 to T12, the example's arities and its states are what document 01 says: both lists compute to the same.
 use mathlib.Core.Path.{_≡_, refl}
 use Rattle.term.specs.Table.{rowsOf, tableOf, tableIn, kindOf, placeUnder}
 use Rattle.term.specs.Accepted.{partBy, partAt, accepted}
@@ -9,16 +9,16 @@ use Rattle.text.specs.Binding.{indexOf, nameless}
 use Rattle.text.specs.Reading.{meant, readerNumber, readOf}
 use Rattle.machine.specs.Machine.{goDown, goUp, stepBy, afterFrom}
 use Rattle.machine.specs.Slice.{slice, putOnLog, readLog, putOnTape, readTape, allZero}
-use Rattle.calls.specs.Stops.{stopAhead, stopBehind}
+use Rattle.calls.specs.Stops.{stopBefore}
 use Rattle.calls.specs.Winding.{wind}
 use Rattle.calls.specs.Held.{wellFormed, stateIn}
-use Rattle.calls.specs.Calls.{openNumber, callNumber, openOf, forwardOf, backOf, goToOf}
-use Rattle.cases.specs.Cases.{exampleText, identityText, openText, example, identity, fresh, next, stranded, states, withStates, cases, at, leaf, stands, results}
+use Rattle.calls.specs.Calls.{lentNumber, callNumber, openOf, windOf, goToOf}
+use Rattle.cases.specs.Cases.{exampleText, identityText, openText, example, exampleTable, identity, fresh, afterwards, stranded, states, withStates, cases, sessionMade, leaf, stoodAt, results}
 
 pub cases-hold : cases ≡ results
-unfolding exampleText identityText openText example identity fresh next stranded states withStates cases at leaf stands results
+unfolding exampleText identityText openText example exampleTable identity fresh afterwards stranded states withStates cases sessionMade leaf stoodAt results
     rowsOf tableOf tableIn kindOf placeUnder partBy partAt accepted
     classOf pieces phraseAt parse indexOf nameless meant readerNumber readOf
     goDown goUp stepBy afterFrom slice putOnLog readLog putOnTape readTape allZero
-    stopAhead stopBehind wind wellFormed stateIn openNumber callNumber openOf forwardOf backOf goToOf
+    stopBefore wind wellFormed stateIn lentNumber callNumber openOf windOf goToOf
 cases-hold = refl

@@ -1,19 +1,20 @@
--- T1 to T12 of document 01, "Case list", and the example's states, as one list. `cases-hold` (proofs/Cases.antt) computes it.
+-- T1 to T12 of document 01, "Case list", with the example's arities and states, as one list. `cases-hold` (proofs/Cases.antt) computes it.
 use mathlib.Core.Option.{Option, none, some}
 use mathlib.Core.List.{List, [], _∷_}
 use Prim.Native.Nat.{ℕ, zero, suc}
 use lib.ListN.{replicate}
-use Rattle.term.specs.Table.{Table, tableIn}
+use Rattle.term.specs.Table.{Table, tableIn, arity}
 use Rattle.text.specs.Reading.{Read, readOf}
 use Rattle.machine.specs.Entries.{Entry, entry, Log, ε, _▸_, bullet, held, Tape}
 use Rattle.machine.specs.Machine.{Dir, down, up, State, state, after}
-use Rattle.calls.specs.Session.{Session, spent, jam, start, logFull, tapeFull, answer, stopped, Answer, Opening, Given}
+use Rattle.calls.specs.Session.{Session, spent, jam, start, logFull, tapeFull, answer, Outcome, Opening, Given}
 use Rattle.calls.specs.Calls.{openOf, forwardOf, backOf, goToOf}
 
--- what a case shows: a reading, a call's answer with both slices, or the plain machine's state
+-- what a case shows: a reading, a variable's arity, a call's outcome with both slices, or the plain machine's state
 pub data Shown : Type 0 where
   reading : Read → Shown
-  call : Answer → Shown
+  arity-of : ℕ → Shown
+  call : Outcome → Shown
   stood : Option State → Shown
 
 -- ---- the texts
@@ -48,6 +49,9 @@ example = record {
       ∷ 9 ∷ [];
 }
 
+unfoldable pub exampleTable : Table
+exampleTable = tableIn (example .table) (example .n)
+
 unfoldable pub identity : Read
 unfolding identityText
 identity = readOf identityText (replicate 10 9)
@@ -57,8 +61,8 @@ fresh r l t =
     let o : Opening = openOf (r .table) (r .n) (replicate l 9) (replicate t 9) in
     record { table = r .table; n = r .n; session = o .session; log = o .log; tape = o .tape }
 
-unfoldable pub next : Read → Answer → Given
-next r a = record { table = r .table; n = r .n; session = a .session; log = a .log; tape = a .tape }
+unfoldable pub afterwards : Read → Outcome → Given
+afterwards r o = record { table = r .table; n = r .n; session = o .session; log = o .log; tape = o .tape }
 
 -- the session of T9
 unfoldable pub stranded : Read → Given
@@ -83,71 +87,78 @@ unfoldable pub cases : List Shown
 cases =
     withStates
     (reading (readOf exampleText (replicate 36 9))  -- T1
+    ∷ arity-of (arity exampleTable 4)
+    ∷ arity-of (arity exampleTable 5)
+    ∷ arity-of (arity exampleTable 7)
     ∷ call (forwardOf (fresh example 2 2) 100)  -- T2
     ∷ call (forwardOf (fresh example 2 1) 100)  -- T3
     ∷ call (forwardOf (fresh example 1 2) 100)  -- T4
     ∷ call (forwardOf (fresh example 2 2) 12)  -- T5
     ∷ call (forwardOf (fresh example 2 2) 0)  -- T6
     ∷ call (backOf (fresh example 2 2) 1)  -- T7
-    ∷ call (goToOf (next example (forwardOf (fresh example 2 2) 12)) 4)  -- T8
+    ∷ call (goToOf (afterwards example (forwardOf (fresh example 2 2) 12)) 4)  -- T8
     ∷ call (forwardOf (stranded example) 1)  -- T9
     ∷ call (forwardOf (fresh identity 2 2) 100)  -- T10
     ∷ reading (readOf [] (replicate 5 9))  -- T11
     ∷ reading (readOf openText (replicate 5 9))  -- T12
     ∷ [])
-    (tableIn (example .table) (example .n))
+    exampleTable
 
 -- ---- what document 01 says of each
 
-unfoldable pub at : ℕ → Dir → ℕ → ℕ → ℕ → Session
-at i d p l t = record { node = i; dir = d; position = p; logLength = l; tapeLength = t }
+unfoldable pub sessionMade : ℕ → Dir → ℕ → ℕ → ℕ → Session
+sessionMade i d p l t = record { node = i; dir = d; position = p; logLength = l; tapeLength = t }
 
 -- an entry of a variable of arity 0
 unfoldable pub leaf : ℕ → Entry
 leaf v = entry v ε
 
-unfoldable pub stands : ℕ → Dir → Log → Tape → Shown
-stands i d L t = stood (some (state i d L t))
+unfoldable pub stoodAt : ℕ → Dir → Log → Tape → Shown
+stoodAt i d L t = stood (some (state i d L t))
 
 unfoldable pub results : List Shown
 results =
     -- T1 the table above, and a word after it kept
     reading example
+    -- "Its variables 4, 5, 7 have arities 0, 1, 0."
+    ∷ arity-of 0
+    ∷ arity-of 1
+    ∷ arity-of 0
     -- T2 forward 100 with slices of 2 and 2: 12 steps, answer 6, peak 2
-    ∷ call (record { session = at 6 down 12 2 0; steps = 12; outcome = stopped (answer 6); peak = 2; log = 7 ∷ 5 ∷ []; tape = 0 ∷ 0 ∷ [] })
+    ∷ call (record { session = sessionMade 6 down 12 2 0; steps = 12; stop = answer 6; peak = 2; log = 7 ∷ 5 ∷ []; tape = 0 ∷ 0 ∷ [] })
     -- T3 tape of 1: 3 steps, tape full
-    ∷ call (record { session = at 4 down 3 0 1; steps = 3; outcome = stopped tapeFull; peak = 1; log = 0 ∷ 0 ∷ []; tape = 0 ∷ [] })
+    ∷ call (record { session = sessionMade 4 down 3 0 1; steps = 3; stop = tapeFull; peak = 1; log = 0 ∷ 0 ∷ []; tape = 0 ∷ [] })
     -- T4 log of 1, tape of 2: 11, log full
-    ∷ call (record { session = at 2 up 11 0 2; steps = 11; outcome = stopped logFull; peak = 2; log = 0 ∷ []; tape = 7 ∷ 5 ∷ [] })
+    ∷ call (record { session = sessionMade 2 up 11 0 2; steps = 11; stop = logFull; peak = 2; log = 0 ∷ []; tape = 7 ∷ 5 ∷ [] })
     -- T5 forward 12: 12, spent
-    ∷ call (record { session = at 6 down 12 2 0; steps = 12; outcome = stopped spent; peak = 2; log = 7 ∷ 5 ∷ []; tape = 0 ∷ 0 ∷ [] })
+    ∷ call (record { session = sessionMade 6 down 12 2 0; steps = 12; stop = spent; peak = 2; log = 7 ∷ 5 ∷ []; tape = 0 ∷ 0 ∷ [] })
     -- T6 forward 0: 0, spent
-    ∷ call (record { session = at 1 down 0 0 0; steps = 0; outcome = stopped spent; peak = 0; log = 0 ∷ 0 ∷ []; tape = 0 ∷ 0 ∷ [] })
+    ∷ call (record { session = sessionMade 1 down 0 0 0; steps = 0; stop = spent; peak = 0; log = 0 ∷ 0 ∷ []; tape = 0 ∷ 0 ∷ [] })
     -- T7 back 1 when fresh: 0, start
-    ∷ call (record { session = at 1 down 0 0 0; steps = 0; outcome = stopped start; peak = 0; log = 0 ∷ 0 ∷ []; tape = 0 ∷ 0 ∷ [] })
+    ∷ call (record { session = sessionMade 1 down 0 0 0; steps = 0; stop = start; peak = 0; log = 0 ∷ 0 ∷ []; tape = 0 ∷ 0 ∷ [] })
     -- T8 from 12 go to 4: node 2, up, tape [4,0]
-    ∷ call (record { session = at 2 up 4 0 2; steps = 8; outcome = stopped spent; peak = 2; log = 0 ∷ 0 ∷ []; tape = 0 ∷ 4 ∷ [] })
+    ∷ call (record { session = sessionMade 2 up 4 0 2; steps = 8; stop = spent; peak = 2; log = 0 ∷ 0 ∷ []; tape = 0 ∷ 4 ∷ [] })
     -- T9 node 2, down, tape [7], forward 1: jam
-    ∷ call (record { session = at 2 down 0 0 1; steps = 0; outcome = stopped jam; peak = 1; log = 0 ∷ 0 ∷ []; tape = 7 ∷ 0 ∷ [] })
+    ∷ call (record { session = sessionMade 2 down 0 0 1; steps = 0; stop = jam; peak = 1; log = 0 ∷ 0 ∷ []; tape = 7 ∷ 0 ∷ [] })
     -- T10 `\x.x`: answer 1 in 0 steps
-    ∷ call (record { session = at 1 down 0 0 0; steps = 0; outcome = stopped (answer 1); peak = 0; log = 0 ∷ 0 ∷ []; tape = 0 ∷ 0 ∷ [] })
+    ∷ call (record { session = sessionMade 1 down 0 0 0; steps = 0; stop = answer 1; peak = 0; log = 0 ∷ 0 ∷ []; tape = 0 ∷ 0 ∷ [] })
     -- T11 empty text: 4
     ∷ reading (record { n = 0; refusal = 4; table = 9 ∷ 9 ∷ 9 ∷ 9 ∷ 9 ∷ [] })
     -- T12 `x`: 5
     ∷ reading (record { n = 0; refusal = 5; table = 9 ∷ 9 ∷ 9 ∷ 9 ∷ 9 ∷ [] })
     -- "The example's states, as node, direction, log, tape", 0 to 12, and none after the answer
-    ∷ stands 1 down ε []
-    ∷ stands 2 down ε (bullet ∷ [])
-    ∷ stands 3 down ε []
-    ∷ stands 4 down ε (bullet ∷ [])
-    ∷ stands 2 up ε (held (leaf 4) ∷ bullet ∷ [])
-    ∷ stands 6 down (leaf 4 ▸ ε) (bullet ∷ [])
-    ∷ stands 7 down (leaf 4 ▸ ε) []
-    ∷ stands 6 up (leaf 4 ▸ ε) (held (leaf 7) ∷ [])
-    ∷ stands 2 down ε (held (leaf 4) ∷ held (leaf 7) ∷ [])
-    ∷ stands 4 up ε (held (leaf 7) ∷ [])
-    ∷ stands 5 down (leaf 7 ▸ ε) []
-    ∷ stands 2 up ε (held (entry 5 (leaf 7 ▸ ε)) ∷ [])
-    ∷ stands 6 down (entry 5 (leaf 7 ▸ ε) ▸ ε) []
+    ∷ stoodAt 1 down ε []
+    ∷ stoodAt 2 down ε (bullet ∷ [])
+    ∷ stoodAt 3 down ε []
+    ∷ stoodAt 4 down ε (bullet ∷ [])
+    ∷ stoodAt 2 up ε (held (leaf 4) ∷ bullet ∷ [])
+    ∷ stoodAt 6 down (leaf 4 ▸ ε) (bullet ∷ [])
+    ∷ stoodAt 7 down (leaf 4 ▸ ε) []
+    ∷ stoodAt 6 up (leaf 4 ▸ ε) (held (leaf 7) ∷ [])
+    ∷ stoodAt 2 down ε (held (leaf 4) ∷ held (leaf 7) ∷ [])
+    ∷ stoodAt 4 up ε (held (leaf 7) ∷ [])
+    ∷ stoodAt 5 down (leaf 7 ▸ ε) []
+    ∷ stoodAt 2 up ε (held (entry 5 (leaf 7 ▸ ε)) ∷ [])
+    ∷ stoodAt 6 down (entry 5 (leaf 7 ▸ ε) ▸ ε) []
     ∷ stood none
     ∷ []

@@ -1,16 +1,16 @@
--- No step lengthens both lists: what one gains in words, the other has given.
+-- No step lengthens both lists, and no step back does: what one gains in words, the other has given.
 use mathlib.Core.Path.{_≡_, sym, ap, _∙_, subst}
 use mathlib.Core.Bool.{Bool, true, false, cond}
-use mathlib.Core.Option.{Option, none, some}
+use mathlib.Core.Option.{Option, none, some, Option·map}
 use mathlib.Core.List.{[], _∷_}
 use Prim.Native.Nat.{ℕ, _+_, _≤_}
 use native.Mathlib.Omega.{arith}
 use lib.ListN.{length, length-append}
 use lib.Dec.{leb}
 use Rattle.term.specs.Table.{Table, arity, Kind, variable, abstraction, application, nothing, kindAt, Place, bodyOf, functionOf, argumentOf, nowhere, placeAt}
-use Rattle.machine.specs.Entries.{entry, Log, ε, _▸_, howMany, top, rest, bullet, held, Tape, entryWords, logWords, tapeWords}
-use Rattle.machine.specs.Machine.{Dir, down, up, State, state, boundAt, goDown, goUp, stepBy, step}
-use Rattle.machine.proofs.Logs.{top-rest, words-onto}
+use Rattle.machine.specs.Entries.{entry, Log, ε, _▸_, howMany, topmost, rest, bullet, held, Tape, entryWords, logWords, tapeWords}
+use Rattle.machine.specs.Machine.{Dir, down, up, State, state, boundAt, goDown, goUp, stepBy, step, turned, turn, stepBack}
+use Rattle.machine.proofs.Logs.{topmost-rest, words-onto}
 
 -- of the lists of s, at most one is longer in u
 pub data NotBoth (s u : State) : Type 0 where
@@ -23,8 +23,8 @@ NotBothIf s (some u) = NotBoth s u
 
 pub rest-no-longer : (a : ℕ) (L : Log) → length (logWords (rest a L)) ≤ length (logWords L)
 rest-no-longer a L =
-    let whole : length (logWords L) ≡ length (logWords (top a L)) + length (logWords (rest a L))
-    = ap (λ M. length (logWords M)) (sym (top-rest a L)) ∙ ap length (words-onto (top a L) (rest a L)) ∙ length-append (logWords (top a L)) (logWords (rest a L)) in
+    let whole : length (logWords L) ≡ length (logWords (topmost a L)) + length (logWords (rest a L))
+    = ap (λ M. length (logWords M)) (sym (topmost-rest a L)) ∙ ap length (words-onto (topmost a L) (rest a L)) ∙ length-append (logWords (topmost a L)) (logWords (rest a L)) in
     omega arith
 
 on-test : (b : Bool) {s u : State} → NotBoth s u → NotBothIf s (cond b (some u) none)
@@ -57,3 +57,13 @@ by-step T i up L t = by-place T i L t (placeAt T i)
 
 pub never-both : (T : Table) (s u : State) → step T s ≡ some u → NotBoth s u
 never-both T s u e = subst (NotBothIf s) e (by-step T (s .node) (s .dir) (s .log) (s .tape))
+
+-- A step back is a step between turned states, whose lists are the same.
+turned-not-both : (s : State) (o : Option State) → NotBothIf (turn s) o → NotBothIf s (Option·map turn o)
+turned-not-both s none h = tt
+turned-not-both s (some u) (log-no-longer h) = log-no-longer h
+turned-not-both s (some u) (tape-no-longer h) = tape-no-longer h
+
+pub back-never-both : (T : Table) (s u : State) → stepBack T s ≡ some u → NotBoth s u
+back-never-both T s u e =
+    subst (NotBothIf s) e (turned-not-both s (step T (turn s)) (by-step T (s .node) (turned (s .dir)) (s .log) (s .tape)))

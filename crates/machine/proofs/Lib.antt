@@ -9,3 +9,4 @@ pub mod Load
 pub mod Read
 pub mod Beyond
 pub mod Span
+pub mod After

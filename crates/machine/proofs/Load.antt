@@ -16,7 +16,7 @@ use Rattle.term.specs.Facts.{Facts}
 use Rattle.machine.specs.Entries.{Entry, entry, Log, ε, _▸_, howMany, _onto_, bullet, held, Tape, entryWords, logWords, tapeWords}
 use Rattle.machine.specs.Good.{EntryIn, LogIn, TapeIn}
 use Rattle.machine.specs.Slice.{slice, putOnLog, readLog, heldOn, under, putOnTape, readTape, allZero}
-use Rattle.machine.proofs.Logs.{top-onto, rest-onto, onto-none, howMany-onto}
+use Rattle.machine.proofs.Logs.{topmost-onto, rest-onto, onto-none, howMany-onto}
 use Rattle.machine.proofs.Nodes.{is-node}
 
 -- The words above, once reversed, come after those below.
@@ -57,7 +57,7 @@ all-onto (e ▸ M) L = ap (λ N. e ▸ N) (all-onto M L)
 module _ (T : Table) where
   log-takes : (v : ℕ) (es L : Log) → kindAt T v ≡ variable → howMany es ≡ arity T v → putOnLog T v (es onto L) ≡ some (entry v es ▸ L)
   unfolding putOnLog
-  log-takes v es L k m = simp (k, ← m, enough, top-onto, rest-onto)
+  log-takes v es L k m = simp (k, ← m, enough, topmost-onto, rest-onto)
 
   log-makes : (v : ℕ) (es : Log) (ys : List ℕ) (L : Log) → kindAt T v ≡ variable → howMany es ≡ arity T v
       → readLog T (v ∷ ys) (putAll (λ e N. e ▸ N) es L) ≡ readLog T ys (entry v es ▸ L)
@@ -88,7 +88,7 @@ module _ (T : Table) (F : Facts T) where
   tape-takes : (v : ℕ) (es : Log) (t : Tape) → kindAt T v ≡ variable → howMany es ≡ arity T v → putOnTape T v (putAll (λ e u. held e ∷ u) es t) ≡ some (held (entry v es) ∷ t)
   unfolding putOnTape
   tape-takes zero es t k m = absurd (not-suc-le-zero (is-node T F 0 variable k tt .from-one))
-  tape-takes (suc v) es t k m = simp (k, ← m, held-all, enough, top-onto, under-all)
+  tape-takes (suc v) es t k m = simp (k, ← m, held-all, enough, topmost-onto, under-all)
 
   tape-makes : (v : ℕ) (es : Log) (ys : List ℕ) (t : Tape) → kindAt T v ≡ variable → howMany es ≡ arity T v
       → readTape T (v ∷ ys) (putAll (λ e u. held e ∷ u) es t) ≡ readTape T ys (held (entry v es) ∷ t)

@@ -4,17 +4,17 @@ use mathlib.Core.List.{_++_, append-assoc}
 use Prim.Native.Nat.{ℕ, zero, suc, _+_, _-_, _≤_}
 use native.Mathlib.Nat.{zero-add, suc-add, sub-zero, zero-sub, suc-sub-suc, le-of-suc-le-suc, not-suc-le-zero}
 use Rattle.term.specs.Table.{Table}
-use Rattle.machine.specs.Entries.{Log, ε, _▸_, howMany, top, rest, _onto_, entryWords, logWords}
+use Rattle.machine.specs.Entries.{Log, ε, _▸_, howMany, topmost, rest, _onto_, entryWords, logWords}
 use Rattle.machine.specs.Good.{LogIn}
 
-pub top-rest : (a : ℕ) (L : Log) → top a L onto rest a L ≡ L
-top-rest zero L = refl
-top-rest (suc a) ε = refl
-top-rest (suc a) (e ▸ L) = ap (λ M. e ▸ M) (top-rest a L)
+pub topmost-rest : (a : ℕ) (L : Log) → topmost a L onto rest a L ≡ L
+topmost-rest zero L = refl
+topmost-rest (suc a) ε = refl
+topmost-rest (suc a) (e ▸ L) = ap (λ M. e ▸ M) (topmost-rest a L)
 
-pub top-onto : (M L : Log) → top (howMany M) (M onto L) ≡ M
-top-onto ε L = refl
-top-onto (e ▸ M) L = ap (λ N. e ▸ N) (top-onto M L)
+pub topmost-onto : (M L : Log) → topmost (howMany M) (M onto L) ≡ M
+topmost-onto ε L = refl
+topmost-onto (e ▸ M) L = ap (λ N. e ▸ N) (topmost-onto M L)
 
 pub rest-onto : (M L : Log) → rest (howMany M) (M onto L) ≡ L
 rest-onto ε L = refl
@@ -34,16 +34,16 @@ howMany-rest zero L = sym (sub-zero (howMany L))
 howMany-rest (suc a) ε = sym (zero-sub (suc a))
 howMany-rest (suc a) (e ▸ L) = howMany-rest a L ∙ sym (suc-sub-suc (howMany L) a)
 
-pub howMany-top : (a : ℕ) (L : Log) → a ≤ howMany L → howMany (top a L) ≡ a
-howMany-top zero L h = refl
-howMany-top (suc a) ε h = absurd (not-suc-le-zero h)
-howMany-top (suc a) (e ▸ L) h = ap suc (howMany-top a L (le-of-suc-le-suc h))
+pub howMany-topmost : (a : ℕ) (L : Log) → a ≤ howMany L → howMany (topmost a L) ≡ a
+howMany-topmost zero L h = refl
+howMany-topmost (suc a) ε h = absurd (not-suc-le-zero h)
+howMany-topmost (suc a) (e ▸ L) h = ap suc (howMany-topmost a L (le-of-suc-le-suc h))
 
 -- of the table
-pub top-in : (T : Table) (a : ℕ) (L : Log) → LogIn T L → LogIn T (top a L)
-top-in T zero L h = tt
-top-in T (suc a) ε h = tt
-top-in T (suc a) (e ▸ L) h = (h .0, top-in T a L (h .1))
+pub topmost-in : (T : Table) (a : ℕ) (L : Log) → LogIn T L → LogIn T (topmost a L)
+topmost-in T zero L h = tt
+topmost-in T (suc a) ε h = tt
+topmost-in T (suc a) (e ▸ L) h = (h .0, topmost-in T a L (h .1))
 
 pub rest-in : (T : Table) (a : ℕ) (L : Log) → LogIn T L → LogIn T (rest a L)
 rest-in T zero L h = h

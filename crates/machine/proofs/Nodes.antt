@@ -6,16 +6,10 @@ use lib.Dec.{eqb}
 use borrow.Author.Tests.{eqb-true}
 use Rattle.term.specs.Table.{Table, Kind, variable, abstraction, application, nothing, kindAt, Place, bodyOf, functionOf, argumentOf, nowhere, placeUnder, placeAt}
 use Rattle.term.specs.Facts.{Facts, IsNode}
+use Rattle.term.proofs.Facts.{NodeKind}
 
--- the kinds of a node that is there
-abbrev pub There : Kind → Type 0
-There variable = Unit
-There abstraction = Unit
-There application = Unit
-There nothing = ⊥
-
-pub is-node : (T : Table) → Facts T → (i : ℕ) (k : Kind) → kindAt T i ≡ k → There k → IsNode T i
-is-node T F i k e h = F .only-nodes i (λ z. subst There (sym e ∙ z) h)
+pub is-node : (T : Table) → Facts T → (i : ℕ) (k : Kind) → kindAt T i ≡ k → NodeKind k → IsNode T i
+is-node T F i k e h = F .only-nodes i (λ z. subst NodeKind (sym e ∙ z) h)
 
 -- the parent that a place names
 abbrev pub Placed : Table → ℕ → Place → Type 0

@@ -12,10 +12,10 @@ use lib.Dec.{eqb}
 use borrow.Author.Tests.{eqb-true}
 use Rattle.term.specs.Choice.{_>>=_}
 use Rattle.term.specs.Table.{Table, arity, variable, kindAt}
-use Rattle.machine.specs.Entries.{entry, Log, ε, _▸_, howMany, top, rest, bullet, held, Tape, entryWords, logWords, tapeWords}
+use Rattle.machine.specs.Entries.{entry, Log, ε, _▸_, howMany, topmost, rest, bullet, held, Tape, entryWords, logWords, tapeWords}
 use Rattle.machine.specs.Good.{LogIn, TapeIn}
 use Rattle.machine.specs.Slice.{slice, makesEntry, putOnLog, readLog, heldOn, under, putOnTape, readTape, allZero}
-use Rattle.machine.proofs.Logs.{top-rest, howMany-top, top-in, rest-in, words-onto}
+use Rattle.machine.proofs.Logs.{topmost-rest, howMany-topmost, topmost-in, rest-in, words-onto}
 use Rattle.machine.proofs.Tests.{entry-made}
 use Rattle.machine.proofs.Load.{reverse-apart}
 
@@ -46,11 +46,11 @@ module _ {A : Type 0} (In : A → Type 0) (words : A → List ℕ) (put : ℕ �
 module _ (T : Table) where
   -- a log
   put-log : (v : ℕ) (L : Log) (b : Bool) → (b ≡ true → (kindAt T v ≡ variable) × (arity T v ≤ howMany L)) → LogIn T L
-      → PutIf (LogIn T) logWords v L (cond b (some (entry v (top (arity T v) L) ▸ rest (arity T v) L)) none)
+      → PutIf (LogIn T) logWords v L (cond b (some (entry v (topmost (arity T v) L) ▸ rest (arity T v) L)) none)
   put-log v L false h g = tt
   put-log v L true h g = (
-    ((h refl .0, howMany-top (arity T v) L (h refl .1), top-in T (arity T v) L g), rest-in T (arity T v) L g),
-    ap (λ q. v ∷ q) (sym (words-onto (top (arity T v) L) (rest (arity T v) L)) ∙ ap logWords (top-rest (arity T v) L)),
+    ((h refl .0, howMany-topmost (arity T v) L (h refl .1), topmost-in T (arity T v) L g), rest-in T (arity T v) L g),
+    ap (λ q. v ∷ q) (sym (words-onto (topmost (arity T v) L) (rest (arity T v) L)) ∙ ap logWords (topmost-rest (arity T v) L)),
   )
 
   pub log-valid : (ws : List ℕ) (L : Log) → readLog T ws ε ≡ some L → LogIn T L × (reverse (logWords L) ≡ ws)
@@ -71,18 +71,18 @@ module _ (T : Table) where
   under-in (suc a) (bullet ∷ t) h = under-in a t h
   under-in (suc a) (held e ∷ t) h = under-in a t (h .1)
 
-  words-under : (a : ℕ) (t : Tape) → a ≤ howMany (heldOn t) → logWords (top a (heldOn t)) ++ tapeWords (under a t) ≡ tapeWords t
+  words-under : (a : ℕ) (t : Tape) → a ≤ howMany (heldOn t) → logWords (topmost a (heldOn t)) ++ tapeWords (under a t) ≡ tapeWords t
   words-under zero t h = refl
   words-under (suc a) [] h = absurd (not-suc-le-zero h)
   words-under (suc a) (bullet ∷ t) h = absurd (not-suc-le-zero h)
   words-under (suc a) (held e ∷ t) h =
-      append-assoc (entryWords e) (logWords (top a (heldOn t))) (tapeWords (under a t)) ∙ ap (λ q. entryWords e ++ q) (words-under a t (le-of-suc-le-suc h))
+      append-assoc (entryWords e) (logWords (topmost a (heldOn t))) (tapeWords (under a t)) ∙ ap (λ q. entryWords e ++ q) (words-under a t (le-of-suc-le-suc h))
 
   put-held : (v : ℕ) (t : Tape) (b : Bool) → (b ≡ true → (kindAt T v ≡ variable) × (arity T v ≤ howMany (heldOn t))) → TapeIn T t
-      → PutIf (TapeIn T) tapeWords v t (cond b (some (held (entry v (top (arity T v) (heldOn t))) ∷ under (arity T v) t)) none)
+      → PutIf (TapeIn T) tapeWords v t (cond b (some (held (entry v (topmost (arity T v) (heldOn t))) ∷ under (arity T v) t)) none)
   put-held v t false h g = tt
   put-held v t true h g = (
-    ((h refl .0, howMany-top (arity T v) (heldOn t) (h refl .1), top-in T (arity T v) (heldOn t) (held-in t g)), under-in (arity T v) t g),
+    ((h refl .0, howMany-topmost (arity T v) (heldOn t) (h refl .1), topmost-in T (arity T v) (heldOn t) (held-in t g)), under-in (arity T v) t g),
     ap (λ q. v ∷ q) (words-under (arity T v) t (h refl .1)),
   )
 

@@ -10,10 +10,10 @@ use lib.Dec.{leb}
 use borrow.Author.Tests.{leb-true}
 use Rattle.term.specs.Table.{Table, arity, Kind, variable, abstraction, application, nothing, kindAt, Place, bodyOf, functionOf, argumentOf, nowhere, placeAt}
 use Rattle.term.specs.Facts.{Facts}
-use Rattle.machine.specs.Entries.{entry, Log, ε, _▸_, howMany, top, rest, _onto_, bullet, held, Tape}
+use Rattle.machine.specs.Entries.{entry, Log, ε, _▸_, howMany, topmost, rest, _onto_, bullet, held, Tape}
 use Rattle.machine.specs.Machine.{Dir, down, up, State, state, boundAt, goDown, goUp, stepBy, step, turned, turn, stepBack}
 use Rattle.machine.specs.Good.{Good}
-use Rattle.machine.proofs.Logs.{top-rest, top-onto, rest-onto, howMany-onto, howMany-rest, howMany-top, top-in, rest-in, onto-in}
+use Rattle.machine.proofs.Logs.{topmost-rest, topmost-onto, rest-onto, howMany-onto, howMany-rest, howMany-topmost, topmost-in, rest-in, onto-in}
 use Rattle.machine.proofs.Tests.{bound-at, bound-is}
 use Rattle.machine.proofs.Rules.{rule-1, rule-2, rule-3, rule-4, rule-5, rule-6, rule-7, rule-8}
 use Rattle.machine.proofs.Nodes.{is-node, Placed, placed}
@@ -41,12 +41,12 @@ UndoneIf T s (some u) = Undone T s u
 module _ (T : Table) (F : Facts T) where
   -- rules 3 and 4 undo each other; their tests came out as b
   undone-3 : (i : ℕ) (L : Log) (t : Tape) (b : Bool) → (b ≡ true → arity T i ≤ howMany L) → kindAt T i ≡ variable → Good T (state i down L t)
-      → UndoneIf T (state i down L t) (cond b (some (state (T .left i) up (rest (arity T i) L) (held (entry i (top (arity T i) L)) ∷ t))) none)
+      → UndoneIf T (state i down L t) (cond b (some (state (T .left i) up (rest (arity T i) L) (held (entry i (topmost (arity T i) L)) ∷ t))) none)
   undone-3 i L t false h k g = tt
   undone-3 i L t true h k g = record {
     back =
-        rule-4 T (T .left i) (rest (arity T i) L) t i (top (arity T i) L) (F .bound i k .binder) (bound-at T i k)
-        ∙ ap (λ M. some (state i up M t)) (top-rest (arity T i) L);
+        rule-4 T (T .left i) (rest (arity T i) L) t i (topmost (arity T i) L) (F .bound i k .binder) (bound-at T i k)
+        ∙ ap (λ M. some (state i up M t)) (topmost-rest (arity T i) L);
     good = record {
       node-there = is-node T F (T .left i) abstraction (F .bound i k .binder) tt;
       level-many =
@@ -54,7 +54,7 @@ module _ (T : Table) (F : Facts T) where
           let m : howMany L ≡ T .level i = g .level-many in
           howMany-rest (arity T i) L ∙ (omega arith);
       log-entries = rest-in T (arity T i) L (g .log-entries);
-      tape-items = ((k, howMany-top (arity T i) L (h refl), top-in T (arity T i) L (g .log-entries)), g .tape-items);
+      tape-items = ((k, howMany-topmost (arity T i) L (h refl), topmost-in T (arity T i) L (g .log-entries)), g .tape-items);
     };
   }
 
@@ -64,8 +64,8 @@ module _ (T : Table) (F : Facts T) where
   undone-4 i v es L t true h g = record {
     back =
         rule-3 T v (es onto L) t k (omega (arith, howMany-onto es L))
-        ∙ ap₂ (λ j a. some (state j up (rest a (es onto L)) (held (entry v (top a (es onto L))) ∷ t))) (h refl) (sym m)
-        ∙ ap₂ (λ M N. some (state i up M (held (entry v N) ∷ t))) (rest-onto es L) (top-onto es L);
+        ∙ ap₂ (λ j a. some (state j up (rest a (es onto L)) (held (entry v (topmost a (es onto L))) ∷ t))) (h refl) (sym m)
+        ∙ ap₂ (λ M N. some (state i up M (held (entry v N) ∷ t))) (rest-onto es L) (topmost-onto es L);
     good = record {
       node-there = is-node T F v variable k tt;
       level-many =

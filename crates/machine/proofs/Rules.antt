@@ -6,7 +6,7 @@ use mathlib.Core.List.{_∷_}
 use Prim.Native.Nat.{ℕ, _≤_}
 use borrow.Author.Tests.{le-leb}
 use Rattle.term.specs.Table.{Table, arity, variable, abstraction, application, kindAt, bodyOf, functionOf, argumentOf, placeAt}
-use Rattle.machine.specs.Entries.{Entry, entry, Log, _▸_, howMany, top, rest, _onto_, bullet, held, Tape}
+use Rattle.machine.specs.Entries.{Entry, entry, Log, _▸_, howMany, topmost, rest, _onto_, bullet, held, Tape}
 use Rattle.machine.specs.Machine.{down, up, state, boundAt, goDown, goUp, stepBy, step}
 
 module _ (T : Table) (i : ℕ) (L : Log) (t : Tape) where
@@ -19,7 +19,7 @@ module _ (T : Table) (i : ℕ) (L : Log) (t : Tape) where
   rule-2 k = simp k
 
   pub rule-3 : kindAt T i ≡ variable → arity T i ≤ howMany L
-      → step T (state i down L t) ≡ some (state (T .left i) up (rest (arity T i) L) (held (entry i (top (arity T i) L)) ∷ t))
+      → step T (state i down L t) ≡ some (state (T .left i) up (rest (arity T i) L) (held (entry i (topmost (arity T i) L)) ∷ t))
   unfolding goDown stepBy
   rule-3 k h = simp (k, le-leb (arity T i) (howMany L) h)
 

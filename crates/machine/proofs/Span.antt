@@ -5,10 +5,10 @@ use Prim.Native.Nat.{ℕ, suc, _+_, _≤_}
 use native.Mathlib.Nat.{zero-add, suc-add, add-assoc, add-comm, add-zero}
 use lib.ListN.{length, length-append}
 use Rattle.term.specs.Table.{Table}
-use Rattle.machine.specs.Entries.{Entry, entry, Log, ε, _▸_, howMany, top, rest, entryWords, logWords}
+use Rattle.machine.specs.Entries.{Entry, entry, Log, ε, _▸_, howMany, topmost, rest, entryWords, logWords}
 use Rattle.machine.specs.Good.{EntryIn, LogIn}
 use Rattle.machine.specs.Span.{span}
-use Rattle.machine.proofs.Logs.{top-rest, howMany-top, top-in, words-onto}
+use Rattle.machine.proofs.Logs.{topmost-rest, howMany-topmost, topmost-in, words-onto}
 
 module _ (T : Table) where
   pub span-none : (ws : List ℕ) → span T ws 0 ≡ 0
@@ -39,9 +39,9 @@ module _ (T : Table) where
   span-one e ws h = span-entry e 0 ws h ∙ ap (λ m. length (entryWords e) + m) (span-none ws) ∙ add-zero (length (entryWords e))
 
   -- the top a entries of a log
-  pub span-top : (a : ℕ) (L : Log) → LogIn T L → a ≤ howMany L → span T (logWords L) a ≡ length (logWords (top a L))
-  span-top a L h l =
-      ap₂ (λ m q. span T q m) (sym (add-zero (howMany (top a L)) ∙ howMany-top a L l)) (ap logWords (sym (top-rest a L)) ∙ words-onto (top a L) (rest a L))
-      ∙ span-log (top a L) 0 (logWords (rest a L)) (top-in T a L h)
-      ∙ ap (λ m. length (logWords (top a L)) + m) (span-none (logWords (rest a L)))
-      ∙ add-zero (length (logWords (top a L)))
+  pub span-topmost : (a : ℕ) (L : Log) → LogIn T L → a ≤ howMany L → span T (logWords L) a ≡ length (logWords (topmost a L))
+  span-topmost a L h l =
+      ap₂ (λ m q. span T q m) (sym (add-zero (howMany (topmost a L)) ∙ howMany-topmost a L l)) (ap logWords (sym (topmost-rest a L)) ∙ words-onto (topmost a L) (rest a L))
+      ∙ span-log (topmost a L) 0 (logWords (rest a L)) (topmost-in T a L h)
+      ∙ ap (λ m. length (logWords (topmost a L)) + m) (span-none (logWords (rest a L)))
+      ∙ add-zero (length (logWords (topmost a L)))

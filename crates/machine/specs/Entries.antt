@@ -27,10 +27,10 @@ howMany ε = 0
 howMany (e ▸ L) = suc (howMany L)
 
 -- the top a entries of a log
-abbrev pub top : ℕ → Log → Log
-top zero L = ε
-top (suc a) ε = ε
-top (suc a) (e ▸ L) = e ▸ top a L
+abbrev pub topmost : ℕ → Log → Log
+topmost zero L = ε
+topmost (suc a) ε = ε
+topmost (suc a) (e ▸ L) = e ▸ topmost a L
 
 -- a log after its top a entries have left it
 abbrev pub rest : ℕ → Log → Log

@@ -7,7 +7,7 @@ use lib.ListN.{length, replicate}
 use lib.Dec.{leb, eqb}
 use Rattle.term.specs.Choice.{_>>=_}
 use Rattle.term.specs.Table.{Table, arity, kindAt}
-use Rattle.machine.specs.Entries.{entry, Log, ε, _▸_, howMany, top, rest, bullet, held, Tape}
+use Rattle.machine.specs.Entries.{entry, Log, ε, _▸_, howMany, topmost, rest, bullet, held, Tape}
 use Rattle.machine.specs.Machine.{isVariable}
 
 -- In a slice of `room` words the top is at the high end, "the last word read comes first in the slice", and "words above the top are 0".
@@ -20,7 +20,7 @@ abbrev pub makesEntry : Table → ℕ → ℕ → Bool
 makesEntry T v have = isVariable (kindAt T v) && leb (arity T v) have
 
 unfoldable pub putOnLog : Table → ℕ → Log → Option Log
-putOnLog T v L = cond (makesEntry T v (howMany L)) (some (entry v (top (arity T v) L) ▸ rest (arity T v) L)) none
+putOnLog T v L = cond (makesEntry T v (howMany L)) (some (entry v (topmost (arity T v) L) ▸ rest (arity T v) L)) none
 
 unfoldable pub readLog : Table → List ℕ → Log → Option Log
 readLog T [] L = some L
@@ -41,7 +41,7 @@ under (suc a) (x ∷ t) = under a t
 unfoldable pub putOnTape : Table → ℕ → Tape → Option Tape
 putOnTape T zero t = some (bullet ∷ t)
 putOnTape T (suc v) t =
-    cond (makesEntry T (suc v) (howMany (heldOn t))) (some (held (entry (suc v) (top (arity T (suc v)) (heldOn t))) ∷ under (arity T (suc v)) t)) none
+    cond (makesEntry T (suc v) (howMany (heldOn t))) (some (held (entry (suc v) (topmost (arity T (suc v)) (heldOn t))) ∷ under (arity T (suc v)) t)) none
 
 unfoldable pub readTape : Table → List ℕ → Tape → Option Tape
 readTape T [] t = some t

@@ -9,36 +9,36 @@ use lib.Seq.{take-take, take-set-le, take-suc-set}
 use Rattle.text.specs.Tokens.{Name}
 use Rattle.text.specs.Grammar.{Tree, apply, Atoms, no-more, _and_, atomTree, applied}
 use Rattle.reader.specs.Scanning.{nameAt, namesAt, treeCode}
-use Rattle.reader.specs.Answers.{atomCode, atomsCode, howMany, Place, place, around, Room}
+use Rattle.reader.specs.Answers.{atomCode, atomsCode, atomCount, Cursor, cursor, namesAround, CodeRoom}
 use Rattle.reader.proofs.Scanning.{namesAt-snoc}
 use Rattle.reader.proofs.Moved.{slide}
 
 pub applied-code : (bs : Atoms) (t : Tree) (names : List Name)
-    → treeCode (applied bs t) names ≡ replicate (howMany bs) 2 ++ (treeCode t names ++ atomsCode bs names)
+    → treeCode (applied bs t) names ≡ replicate (atomCount bs) 2 ++ (treeCode t names ++ atomsCode bs names)
 unfolding treeCode
 applied-code no-more t names = sym (append-nil (treeCode t names))
 applied-code (b and bs) t names =
     applied-code bs (apply t (atomTree b)) names
-    ∙ slide (howMany bs) 2 ((treeCode t names ++ atomCode b names) ++ atomsCode bs names)
-    ∙ ap (λ (l : List ℕ). 2 ∷ (replicate (howMany bs) 2 ++ l)) (append-assoc (treeCode t names) (atomCode b names) (atomsCode bs names))
+    ∙ slide (atomCount bs) 2 ((treeCode t names ++ atomCode b names) ++ atomsCode bs names)
+    ∙ ap (λ (l : List ℕ). 2 ∷ (replicate (atomCount bs) 2 ++ l)) (append-assoc (treeCode t names) (atomCode b names) (atomsCode bs names))
 
 -- the names around a place further on, where the scope up to its depth is kept
-pub around-kept : (w : Place) (p m : ℕ) (scope₁ out₁ : List ℕ) → take (w .depth) scope₁ ≡ take (w .depth) (w .scope)
-    → around (place (w .text) p scope₁ (w .depth) out₁ m) ≡ around w
+pub around-kept : (w : Cursor) (p m : ℕ) (scope₁ out₁ : List ℕ) → take (w .depth) scope₁ ≡ take (w .depth) (w .scope)
+    → namesAround (cursor (w .text) p scope₁ (w .depth) out₁ m) ≡ namesAround w
 around-kept w p m scope₁ out₁ e = ap (λ (l : List ℕ). namesAt (w .text) l []) e
 
 -- the body of an abstraction: its place, the room there and the names around it
-abbrev pub body : Place → ℕ → ℕ → Place
-body w x q = place (w .text) q (set (w .scope) (w .depth) x) (w .depth + 1) (set (w .out) (w .node) 1) (w .node + 1)
+abbrev pub body : Cursor → ℕ → ℕ → Cursor
+body w x q = cursor (w .text) q (set (w .scope) (w .depth) x) (w .depth + 1) (set (w .out) (w .node) 1) (w .node + 1)
 
-pub body-room : (w : Place) (x q : ℕ) → Room w → w .at < q → q ≤ length (w .text) → Room (body w x q)
+pub body-room : (w : Cursor) (x q : ℕ) → CodeRoom w → w .at < q → q ≤ length (w .text) → CodeRoom (body w x q)
 body-room w x q r on within = omega (arith, length-set (w .scope) (w .depth) x, length-set (w .out) (w .node) 1)
 
-pub around-body : (w : Place) (x q : ℕ) → w .depth < length (w .scope) → around (body w x q) ≡ nameAt (w .text) x ∷ around w
+pub around-body : (w : Cursor) (x q : ℕ) → w .depth < length (w .scope) → namesAround (body w x q) ≡ nameAt (w .text) x ∷ namesAround w
 around-body w x q h =
     rw (add-one (w .depth), take-suc-set (w .scope) (w .depth) x h) (namesAt-snoc (w .text) (take (w .depth) (w .scope)) x [])
 
-pub body-kept : (w : Place) (x : ℕ) (scope′ : List ℕ) → take (w .depth + 1) scope′ ≡ take (w .depth + 1) (set (w .scope) (w .depth) x)
+pub body-kept : (w : Cursor) (x : ℕ) (scope′ : List ℕ) → take (w .depth + 1) scope′ ≡ take (w .depth + 1) (set (w .scope) (w .depth) x)
     → take (w .depth) scope′ ≡ take (w .depth) (w .scope)
 body-kept w x scope′ e =
     let d = w .depth in

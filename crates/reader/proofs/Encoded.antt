@@ -18,7 +18,7 @@ use Rattle.text.specs.Parse.{isEmpty, parse}
 use Rattle.text.specs.Binding.{nameless}
 use Rattle.text.specs.Reading.{Read, refused}
 use Rattle.reader.specs.Scanning.{gapRun, namesAt, treeCode}
-use Rattle.reader.specs.Answers.{place, ReadTo, phraseFrom, phraseCode}
+use Rattle.reader.specs.Answers.{cursor, ReadTo, phraseFrom, phraseCode}
 use Rattle.reader.specs.Layout.{Whole, anyZero}
 use Rattle.reader.specs.Steps.{InCode, CodedTo, answerFor}
 use Rattle.text.proofs.Tokens.{tokens-nil, tokens-mark}
@@ -48,7 +48,7 @@ text-not text e = rw e
 
 -- What was read from the text's start on: the whole text spells it if nothing is left, and no term else.
 module _ (text scope code scope′ code′ : List ℕ) (p n end : ℕ)
-    (r : ReadTo phraseFrom phraseCode (place text 0 scope 0 code 0) p n 1 scope′ code′) (e : end ≡ p + gapRun (drop p text)) where
+    (r : ReadTo phraseFrom phraseCode (cursor text 0 scope 0 code 0) p n 1 scope′ code′) (e : end ≡ p + gapRun (drop p text)) where
   pub text-left : end < length text → parse (tokens text) ≡ none
   unfolding parse phraseFrom
   text-left h = rw (r .is) (rw (something-left (drop p text) (omega (arith, length-drop p text))) refl)
@@ -57,27 +57,27 @@ module _ (text scope code scope′ code′ : List ℕ) (p n end : ℕ)
   unfolding parse phraseFrom
   text-is h = rw (r .is) (rw (nothing-left (drop p text) (omega (arith, length-drop p text))) refl)
 
-  abbrev words : List ℕ
-  words = treeCode (phraseTree (r .value)) []
+  abbrev codeWords : List ℕ
+  codeWords = treeCode (phraseTree (r .value)) []
 
-  words-next : n ≡ 0 + length words
+  words-next : n ≡ 0 + length codeWords
   unfolding namesAt
   words-next = r .next
 
-  words-wrote : code′ ≡ sets code 0 words
+  words-wrote : code′ ≡ sets code 0 codeWords
   unfolding namesAt
   words-wrote = r .wrote
 
   pub text-coded : length text ≤ end → length text ≤ 3000 → 6000 ≤ length code → CodedTo text n code′
   text-coded h short room =
-      let few : length words ≤ length text =
+      let few : length codeWords ≤ length text =
       omega (arith, tree-code-length (phraseTree (r .value)) [], few-nodes text (r .value) (parse-exactly (tokens text) (r .value) .0 (text-is h))) in
       record {
         phrase = r .value;
         is = text-is h;
         in-code = record {
-          rest = drop (0 + length words) code;
-          stands = words-wrote ∙ sets-eq words code 0 (omega arith);
+          rest = drop (0 + length codeWords) code;
+          stands = words-wrote ∙ sets-eq codeWords code 0 (omega arith);
           count = omega (arith, words-next);
           few = omega (arith, words-next);
         };

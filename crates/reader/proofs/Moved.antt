@@ -54,12 +54,12 @@ slice-run : (o : List ℕ) (i : ℕ) (vs : List ℕ) → i + length vs ≤ lengt
 slice-run o i vs h = rw (take-run o i vs h) (drop-at (take i o) vs i (length-take-le i o (omega arith)))
 
 -- a run moved up word by word, from its end
-pub up-none : (o : List ℕ) (i by : ℕ) → o ≡ sets o (i + by) (slice i i o)
-up-none o i by = rw slice-empty
+pub moved-none : (o : List ℕ) (i by : ℕ) → o ≡ sets o (i + by) (slice i i o)
+moved-none o i by = rw slice-empty
 
-pub up-more : (o out : List ℕ) (i end by : ℕ) → i < end → end ≤ length o → out ≡ sets o (suc i + by) (slice (suc i) end o)
+pub moved-more : (o out : List ℕ) (i end by : ℕ) → i < end → end ≤ length o → out ≡ sets o (suc i + by) (slice (suc i) end o)
     → set out (i + by) (getD out i 0) ≡ sets o (i + by) (slice i end o)
-up-more o out i end by h le e =
+moved-more o out i end by h le e =
     let s : suc i + by ≡ suc (i + by) = omega arith in
     let g : getD out i 0 ≡ getD o i 0 = rw e (getD-sets-before o (suc i + by) (slice (suc i) end o) i (omega arith)) in
     rw (g, e, slice-cons i end o 0, s) (set-sets-before o (suc (i + by)) (slice (suc i) end o) (i + by) (getD o i 0) (omega arith))

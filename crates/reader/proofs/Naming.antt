@@ -70,28 +70,28 @@ past-suc k none = refl
 past-suc k (some i) = ap {B = Option ℕ} some (omega arith)
 
 -- the binders up to a position of the scope, the last of which is the innermost
-abbrev pub binders : List ℕ → List ℕ → ℕ → List Name
-binders text scope d = namesAt text (take d scope) []
+abbrev pub boundNames : List ℕ → List ℕ → ℕ → List Name
+boundNames text scope d = namesAt text (take d scope) []
 
-pub no-binders : (text scope : List ℕ) (x : Name) (k d : ℕ) → d ≤ 0 → past k (indexOf x (binders text scope d)) ≡ none
+pub no-binders : (text scope : List ℕ) (x : Name) (k d : ℕ) → d ≤ 0 → past k (indexOf x (boundNames text scope d)) ≡ none
 unfolding indexOf namesAt
 no-binders text scope x k zero h = refl
 no-binders text scope x k (suc d) h = absurd (omega arith)
 
-index-here : (text scope : List ℕ) (x : Name) (e : ℕ) → e < length scope
-    → indexOf x (binders text scope (suc e))
-    ≡ cond (sameName x (nameAt text (getD scope e 0))) (some 0) (indexOf x (binders text scope e) >>= λ i. some (suc i))
+name-index-here : (text scope : List ℕ) (x : Name) (e : ℕ) → e < length scope
+    → indexOf x (boundNames text scope (suc e))
+    ≡ cond (sameName x (nameAt text (getD scope e 0))) (some 0) (indexOf x (boundNames text scope e) >>= λ i. some (suc i))
 unfolding indexOf
-index-here text scope x e h = rw (take-suc scope e 0, namesAt-snoc)
+name-index-here text scope x e h = rw (take-suc scope e 0, namesAt-snoc)
 
 -- Of the first d binders of the scope, the last stands at e.
 module _ (text scope : List ℕ) (x : Name) (depth d e : ℕ) (last : d ≡ suc e) (within : d ≤ depth) (fits : depth ≤ length scope) where
   pub its-binder : sameName x (nameAt text (getD scope e 0)) ≡ true
-      → variableWord (past (depth - d) (indexOf x (binders text scope d))) ≡ 3 + (depth - d)
-  its-binder same = rw (last, index-here text scope x e (omega arith), same) (omega arith)
+      → variableWord (past (depth - d) (indexOf x (boundNames text scope d))) ≡ 3 + (depth - d)
+  its-binder same = rw (last, name-index-here text scope x e (omega arith), same) (omega arith)
 
   pub not-its-binder : sameName x (nameAt text (getD scope e 0)) ≡ false
-      → past (depth - e) (indexOf x (binders text scope e)) ≡ past (depth - d) (indexOf x (binders text scope d))
+      → past (depth - e) (indexOf x (boundNames text scope e)) ≡ past (depth - d) (indexOf x (boundNames text scope d))
   not-its-binder other =
       let one-more : depth - e ≡ suc (depth - d) = omega arith in
-      rw (one-more, last, index-here text scope x e (omega arith), other) (sym (past-suc (depth - suc e) (indexOf x (binders text scope e))))
+      rw (one-more, last, name-index-here text scope x e (omega arith), other) (sym (past-suc (depth - suc e) (indexOf x (boundNames text scope e))))

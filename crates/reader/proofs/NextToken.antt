@@ -15,7 +15,7 @@ use Rattle.text.specs.Bytes.{sign, classOf, inName, opening}
 use Rattle.text.specs.Tokens.{tokens}
 use Rattle.text.specs.Parse.{afterMark, nameFirst, startsAtom}
 use Rattle.reader.specs.Scanning.{nameRun, gapRun}
-use Rattle.reader.specs.Answers.{ahead, MarkTo, NameTo}
+use Rattle.reader.specs.Answers.{tokensFrom, MarkTo, NameTo}
 use Rattle.text.proofs.Tokens.{tokens-nil, tokens-mark}
 use Rattle.reader.proofs.Scanning.{gap-fits, name-fits, skip-tokens, no-gap, name-tokens, first-token}
 
@@ -53,14 +53,14 @@ sign-some (suc b) e = omega arith
 
 -- The same from a position on, at the token that follows the gap there.
 module _ (text : List ℕ) (at i : ℕ) (skipped : i ≡ at + gapRun (drop at text)) where
-  behind : drop i text ≡ drop (gapRun (drop at text)) (drop at text)
-  behind = rw skipped (sym (drop-drop (gapRun (drop at text)) at text))
+  text-behind : drop i text ≡ drop (gapRun (drop at text)) (drop at text)
+  text-behind = rw skipped (sym (drop-drop (gapRun (drop at text)) at text))
 
-  same-ahead : ahead text i ≡ ahead text at
-  same-ahead = ap tokens behind ∙ skip-tokens (drop at text)
+  same-tokens : tokensFrom text i ≡ tokensFrom text at
+  same-tokens = ap tokens text-behind ∙ skip-tokens (drop at text)
 
   gap-passed : gapRun (drop i text) ≡ 0
-  gap-passed = rw behind (no-gap (drop at text))
+  gap-passed = rw text-behind (no-gap (drop at text))
 
   first-byte : getD (drop i text) 0 0 ≡ getD text i 0
   first-byte = getD-drop i text 0 0 ∙ rw add-zero
@@ -70,31 +70,31 @@ module _ (text : List ℕ) (at i : ℕ) (skipped : i ≡ at + gapRun (drop at te
 
   pub after-found : (b r : ℕ) → classOf b ≡ sign → (r ≡ getD text i 0) × (r ≤ 255 * (length text - i)) → r ≡ b → MarkTo b text at (i + 1)
   after-found b r k e h = record {
-    is = ap (afterMark b) (sym same-ahead) ∙ mark-found b (drop i text) k (first-byte ∙ sym (e .0) ∙ h) (omega (arith, length-drop i text, sign-some b k)) ∙ rw (drop-drop 1 i text);
+    is = ap (afterMark b) (sym same-tokens) ∙ mark-found b (drop i text) k (first-byte ∙ sym (e .0) ∙ h) (omega (arith, length-drop i text, sign-some b k)) ∙ rw (drop-drop 1 i text);
     on = omega arith;
     within = omega (arith, sign-some b k);
   }
 
-  pub after-missing : (b r : ℕ) → r ≡ getD text i 0 → (r ≡ b → ⊥) → afterMark b (ahead text at) ≡ none
-  after-missing b r e n = ap (afterMark b) (sym same-ahead) ∙ mark-missing b (drop i text) gap-passed (λ h. n (e ∙ sym first-byte ∙ h))
+  pub after-missing : (b r : ℕ) → r ≡ getD text i 0 → (r ≡ b → ⊥) → afterMark b (tokensFrom text at) ≡ none
+  after-missing b r e n = ap (afterMark b) (sym same-tokens) ∙ mark-missing b (drop i text) gap-passed (λ h. n (e ∙ sym first-byte ∙ h))
 
   pub first-found : (end : ℕ) → at ≤ length text → end ≡ i + nameRun (drop i text) → i < end → NameTo text at i end
   first-found end w e h = record {
-    is = ap nameFirst (sym same-ahead) ∙ rw (name-tokens (drop i text) (omega arith), drop-drop (nameRun (drop i text)) i text, ← e);
+    is = ap nameFirst (sym same-tokens) ∙ rw (name-tokens (drop i text) (omega arith), drop-drop (nameRun (drop i text)) i text, ← e);
     on = omega arith;
     within = omega (arith, name-fits (drop i text), length-drop i text, skip-fits w);
     stands = skip-fits w;
   }
 
-  pub first-missing : (end : ℕ) → end ≡ i + nameRun (drop i text) → end ≤ i → nameFirst (ahead text at) ≡ none
-  first-missing end e h = ap nameFirst (sym same-ahead) ∙ name-missing (drop i text) gap-passed (omega arith)
+  pub first-missing : (end : ℕ) → end ≡ i + nameRun (drop i text) → end ≤ i → nameFirst (tokensFrom text at) ≡ none
+  first-missing end e h = ap nameFirst (sym same-tokens) ∙ name-missing (drop i text) gap-passed (omega arith)
 
-  pub starts-named : (b : ℕ) → b ≡ getD text i 0 → inName (classOf b) ≡ true → true ≡ startsAtom (ahead text at)
+  pub starts-named : (b : ℕ) → b ≡ getD text i 0 → inName (classOf b) ≡ true → true ≡ startsAtom (tokensFrom text at)
   starts-named b e h =
       let g : inName (classOf (getD (drop i text) 0 0)) ≡ true = rw (first-byte, ← e) h in
-      sym (name-starts-atom (drop i text) gap-passed g) ∙ ap startsAtom same-ahead
+      sym (name-starts-atom (drop i text) gap-passed g) ∙ ap startsAtom same-tokens
 
-  pub starts-sign : (b : ℕ) → b ≡ getD text i 0 → inName (classOf b) ≡ false → eqb b opening ≡ startsAtom (ahead text at)
+  pub starts-sign : (b : ℕ) → b ≡ getD text i 0 → inName (classOf b) ≡ false → eqb b opening ≡ startsAtom (tokensFrom text at)
   starts-sign b e h =
       let g : inName (classOf (getD (drop i text) 0 0)) ≡ false = rw (first-byte, ← e) h in
-      ap (λ (c : ℕ). eqb c opening) (e ∙ sym first-byte) ∙ sym (sign-starts-atom (drop i text) gap-passed g) ∙ ap startsAtom same-ahead
+      ap (λ (c : ℕ). eqb c opening) (e ∙ sym first-byte) ∙ sym (sign-starts-atom (drop i text) gap-passed g) ∙ ap startsAtom same-tokens

@@ -9,7 +9,7 @@ use lib.Seq.{drop-drop, drop-at, getD-drop}
 use Rattle.term.specs.Term.{Term, var, lam, app, size}
 use Rattle.term.specs.Code.{codeOf}
 use Rattle.term.proofs.Rows.{size-positive}
-use Rattle.reader.specs.Layout.{Ready}
+use Rattle.reader.specs.Layout.{Layable}
 
 -- A term has a word for each node.
 pub code-length : (t : Term) → length (codeOf t) ≡ size t
@@ -31,11 +31,11 @@ later-words : (code : List ℕ) (before next : ℕ) (ws rest : List ℕ) → dro
 later-words code before next ws rest e h = rw h (sym (drop-drop (length ws) before code) ∙ rw e (drop-at ws rest (length ws) refl))
 
 -- a part is as ready in slices of the same lengths
-pub ready-as : {code : List ℕ} {before d s s′ l l′ : ℕ} {t : Term} → s ≡ s′ → l ≡ l′ → Ready code before d s l t → Ready code before d s′ l′ t
-ready-as {code} {before} {d} {t = t} e h r = subst₂ (λ m n. Ready code before d m n t) e h r
+pub layable-as : {code : List ℕ} {before d s s′ l l′ : ℕ} {t : Term} → s ≡ s′ → l ≡ l′ → Layable code before d s l t → Layable code before d s′ l′ t
+layable-as {code} {before} {d} {t = t} e h r = subst₂ (λ m n. Layable code before d m n t) e h r
 
 -- A node of its own has its word, its row and its place in the scope.
-pub record Enough (code : List ℕ) (before d s l : ℕ) : Type 0 where
+pub record NodeRoom (code : List ℕ) (before d s l : ℕ) : Type 0 where
   pub in-code : before < length code
   pub few-nodes : before < 3000
   pub scope-room : d < s
@@ -43,10 +43,10 @@ pub record Enough (code : List ℕ) (before d s l : ℕ) : Type 0 where
 
 module _ (code : List ℕ) (before d s l : ℕ) where
   abbrev Here : Term → Type 0
-  Here t = Ready code before d s l t
+  Here t = Layable code before d s l t
 
-  pub enough : (t : Term) → Here t → Enough code before d s l
-  enough t r =
+  pub node-room : (t : Term) → Here t → NodeRoom code before d s l
+  node-room t r =
       let n = size-positive t in
       record {
         in-code = omega (arith, ap length (r .stands), length-drop before code, length-append (codeOf t) (r .rest), code-length t);
@@ -56,10 +56,10 @@ module _ (code : List ℕ) (before d s l : ℕ) where
       }
 
   -- the word 1 begins an abstraction,
-  pub body-ready : (t : Term) → Here t → getD code before 0 ≡ 1 → (b : Term) × (t ≡ lam b) × Ready code (before + 1) (d + 1) s l b
+  pub body-layable : (t : Term) → Here t → getD code before 0 ≡ 1 → (b : Term) × (t ≡ lam b) × Layable code (before + 1) (d + 1) s l b
   unfolding codeOf
-  body-ready (var x) r e = absurd (omega (arith, first-word code before (3 + x) (r .rest) (r .stands)))
-  body-ready (lam b) r e = (
+  body-layable (var x) r e = absurd (omega (arith, first-word code before (3 + x) (r .rest) (r .stands)))
+  body-layable (lam b) r e = (
     b,
     refl,
     record {
@@ -71,25 +71,25 @@ module _ (code : List ℕ) (before d s l : ℕ) where
       table-room = omega arith;
     },
   )
-  body-ready (app f a) r e = absurd (omega (arith, first-word code before 2 (codeOf f ++ codeOf a ++ r .rest) (r .stands)))
+  body-layable (app f a) r e = absurd (omega (arith, first-word code before 2 (codeOf f ++ codeOf a ++ r .rest) (r .stands)))
 
   -- the word 2 an application, whose argument stands after its function,
   pub record Parts (t : Term) : Type 0 where
     pub function : Term
     pub argument : Term
     pub is-app : t ≡ app function argument
-    pub function-ready : Ready code (before + 1) d s l function
-    pub argument-ready : (next : ℕ) → next ≡ before + 1 + size function → Ready code next d s l argument
+    pub function-layable : Layable code (before + 1) d s l function
+    pub argument-layable : (next : ℕ) → next ≡ before + 1 + size function → Layable code next d s l argument
 
-  pub parts-ready : (t : Term) → Here t → getD code before 0 ≡ 2 → Parts t
+  pub parts-layable : (t : Term) → Here t → getD code before 0 ≡ 2 → Parts t
   unfolding codeOf
-  parts-ready (var x) r e = absurd (omega (arith, first-word code before (3 + x) (r .rest) (r .stands)))
-  parts-ready (lam b) r e = absurd (omega (arith, first-word code before 1 (codeOf b ++ r .rest) (r .stands)))
-  parts-ready (app f a) r e = record {
+  parts-layable (var x) r e = absurd (omega (arith, first-word code before (3 + x) (r .rest) (r .stands)))
+  parts-layable (lam b) r e = absurd (omega (arith, first-word code before 1 (codeOf b ++ r .rest) (r .stands)))
+  parts-layable (app f a) r e = record {
     function = f;
     argument = a;
     is-app = refl;
-    function-ready = record {
+    function-layable = record {
       rest = codeOf a ++ r .rest;
       stands = after;
       closed = r .closed .0;
@@ -97,7 +97,7 @@ module _ (code : List ℕ) (before d s l : ℕ) where
       scope-room = omega arith;
       table-room = omega arith;
     };
-    argument-ready = λ next h. record {
+    argument-layable = λ next h. record {
       rest = r .rest;
       stands = later-words code (before + 1) next (codeOf f) (codeOf a ++ r .rest) after (omega (arith, code-length f));
       closed = r .closed .1;
@@ -111,9 +111,9 @@ module _ (code : List ℕ) (before d s l : ℕ) where
       after = other-words code before 2 (codeOf f ++ codeOf a ++ r .rest) (r .stands) ∙ append-assoc (codeOf f) (codeOf a) (r .rest)
 
   -- and every other word a variable.
-  pub index-ready : (t : Term) → Here t → (getD code before 0 ≡ 1 → ⊥) → (getD code before 0 ≡ 2 → ⊥)
+  pub index-layable : (t : Term) → Here t → (getD code before 0 ≡ 1 → ⊥) → (getD code before 0 ≡ 2 → ⊥)
       → (x : ℕ) × (t ≡ var x) × (getD code before 0 ≡ 3 + x) × (x < d)
   unfolding codeOf
-  index-ready (var x) r n m = (x, refl, first-word code before (3 + x) (r .rest) (r .stands), r .closed)
-  index-ready (lam b) r n m = absurd (n (first-word code before 1 (codeOf b ++ r .rest) (r .stands)))
-  index-ready (app f a) r n m = absurd (m (first-word code before 2 (codeOf f ++ codeOf a ++ r .rest) (r .stands)))
+  index-layable (var x) r n m = (x, refl, first-word code before (3 + x) (r .rest) (r .stands), r .closed)
+  index-layable (lam b) r n m = absurd (n (first-word code before 1 (codeOf b ++ r .rest) (r .stands)))
+  index-layable (app f a) r n m = absurd (m (first-word code before 2 (codeOf f ++ codeOf a ++ r .rest) (r .stands)))

@@ -1,5 +1,5 @@
 -- A run: how many bytes of a kind a text begins with. How it goes on at a position, and where it ends.
-use mathlib.Core.Path.{_≡_, refl, ap, _∙_}
+use mathlib.Core.Path.{_≡_, refl, ap}
 use mathlib.Core.Bool.{Bool, true, false, cond}
 use mathlib.Core.List.{List, [], _∷_}
 use Prim.Native.Nat.{ℕ, suc, _+_, _≤_, _<_}
@@ -7,38 +7,33 @@ use native.Mathlib.Numerals.{add-one}
 use native.Mathlib.Omega.{arith}
 use lib.ListN.{length, getD, drop, drop-of-length-le}
 use lib.Seq.{drop-cons}
-use Rattle.text.specs.Bytes.{Class, classOf, inName}
-use Rattle.reader.specs.Scanning.{inGap, nameRun, gapRun}
+use Rattle.text.specs.Bytes.{Class, classOf}
+use Rattle.reader.specs.Scanning.{runOf}
 
-pub record IsRun (kind : Class → Bool) (run : List ℕ → ℕ) : Type 0 where
-  pub nil : run [] ≡ 0
-  pub cons : (b : ℕ) (s : List ℕ) → run (b ∷ s) ≡ cond (kind (classOf b)) (suc (run s)) 0
+module _ (kind : Class → Bool) where
+  abbrev run : List ℕ → ℕ
+  run s = runOf kind s
 
-pub name-run : IsRun inName nameRun
-unfolding nameRun
-name-run = record { nil = refl; cons = λ b s. refl }
-
-pub gap-run : IsRun inGap gapRun
-unfolding gapRun
-gap-run = record { nil = refl; cons = λ b s. refl }
-
-module _ {kind : Class → Bool} {run : List ℕ → ℕ} (is : IsRun kind run) where
   pub run-fits : (s : List ℕ) → run s ≤ length s
-  run-fits [] = omega (arith, is .nil)
-  run-fits (b ∷ s) = rw (is .cons b s) (by-test (kind (classOf b)) (run-fits s))
+  unfolding runOf
+  run-fits [] = omega arith
+  run-fits (b ∷ s) = (by-test (kind (classOf b)) (run-fits s))
     where
       by-test : (t : Bool) → run s ≤ length s → cond t (suc (run s)) 0 ≤ suc (length s)
       by-test true h = omega arith
       by-test false h = omega arith
 
   pub run-first : (b : ℕ) (s : List ℕ) → kind (classOf b) ≡ true → run (b ∷ s) ≡ suc (run s)
-  run-first b s h = is .cons b s ∙ rw h
+  unfolding runOf
+  run-first b s h = rw h
 
   pub run-none : (b : ℕ) (s : List ℕ) → kind (classOf b) ≡ false → run (b ∷ s) ≡ 0
-  run-none b s h = is .cons b s ∙ rw h
+  unfolding runOf
+  run-none b s h = rw h
 
   pub run-done : (s : List ℕ) → run (drop (run s) s) ≡ 0
-  run-done [] = rw (is .nil) (is .nil)
+  unfolding runOf
+  run-done [] = refl
   run-done (b ∷ s) = by-test (kind (classOf b)) refl (run-done s)
     where
       by-test : (t : Bool) → kind (classOf b) ≡ t → run (drop (run s) s) ≡ 0 → run (drop (run (b ∷ s)) (b ∷ s)) ≡ 0
@@ -46,7 +41,8 @@ module _ {kind : Class → Bool} {run : List ℕ → ℕ} (is : IsRun kind run) 
       by-test false e ih = rw (run-none b s e) (run-none b s e)
 
   pub run-past : (s : List ℕ) (i : ℕ) → length s ≤ i → run (drop i s) ≡ 0
-  run-past s i h = ap run (drop-of-length-le s h) ∙ is .nil
+  unfolding runOf
+  run-past s i h = ap run (drop-of-length-le s h)
 
   module _ (s : List ℕ) (i : ℕ) (h : i < length s) where
     pub run-more : kind (classOf (getD s i 0)) ≡ true → i + 1 + run (drop (i + 1) s) ≡ i + run (drop i s)

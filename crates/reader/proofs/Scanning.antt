@@ -8,16 +8,16 @@ use native.Mathlib.Omega.{arith}
 use lib.ListN.{length, take, drop, take-append-drop, length-take, length-drop}
 use Rattle.text.specs.Bytes.{Class, letter, digit, blank, sign, foreign, classOf, inName}
 use Rattle.text.specs.Tokens.{Name, name, Piece, putByte, pieces, tokensOf, tokens, AllInName}
-use Rattle.reader.specs.Scanning.{inGap, nameRun, gapRun, nameAt, namesAt}
-use Rattle.text.proofs.Tokens.{Ends, tokens-nil, tokens-name}
-use Rattle.reader.proofs.Runs.{name-run, gap-run, run-fits, run-first, run-done}
+use Rattle.reader.specs.Scanning.{inGap, runOf, nameRun, gapRun, nameAt, namesAt}
+use Rattle.text.proofs.Tokens.{NameEnds, tokens-nil, tokens-name}
+use Rattle.reader.proofs.Runs.{run-fits, run-first, run-done}
 
 -- A run is within its text.
 pub gap-fits : (s : List ℕ) → gapRun s ≤ length s
-gap-fits s = run-fits gap-run s
+gap-fits s = run-fits inGap s
 
 pub name-fits : (s : List ℕ) → nameRun s ≤ length s
-name-fits s = run-fits name-run s
+name-fits s = run-fits inName s
 
 pub name-room : (s : List ℕ) (i : ℕ) → nameRun (drop i s) ≤ length s - i
 name-room s i = rw (length-drop) at (name-fits (drop i s))
@@ -31,7 +31,7 @@ tokens-put-gap sign b ps h = let z : _≡_ {A = ℕ} 0 1 = cc in absurd (omega a
 tokens-put-gap foreign b ps h = refl
 
 pub skip-tokens : (s : List ℕ) → tokens (drop (gapRun s) s) ≡ tokens s
-unfolding gapRun pieces
+unfolding runOf pieces
 skip-tokens [] = refl
 skip-tokens (b ∷ s) = by-test (inGap (classOf b)) (tokens-put-gap (classOf b) b (pieces s)) (skip-tokens s)
   where
@@ -41,11 +41,11 @@ skip-tokens (b ∷ s) = by-test (inGap (classOf b)) (tokens-put-gap (classOf b) 
     by-test false gap ih = refl
 
 pub no-gap : (s : List ℕ) → gapRun (drop (gapRun s) s) ≡ 0
-no-gap s = run-done gap-run s
+no-gap s = run-done inGap s
 
 -- A run of bytes of names is a whole name, and its text begins with the token of it.
 name-all : (s : List ℕ) → AllInName (take (nameRun s) s)
-unfolding nameRun
+unfolding runOf
 name-all [] = tt
 name-all (b ∷ s) = by-test (inName (classOf b)) refl (name-all s)
   where
@@ -53,12 +53,12 @@ name-all (b ∷ s) = by-test (inName (classOf b)) refl (name-all s)
     by-test true e ih = (e, ih)
     by-test false e ih = tt
 
-pub no-name-ends : (s : List ℕ) → nameRun s ≡ 0 → Ends s
+pub no-name-ends : (s : List ℕ) → nameRun s ≡ 0 → NameEnds s
 no-name-ends [] h = tt
 no-name-ends (b ∷ s) h = by-test (inName (classOf b)) refl
   where
     by-test : (t : Bool) → inName (classOf b) ≡ t → t ≡ false
-    by-test true e = absurd (omega (arith, run-first name-run b s e))
+    by-test true e = absurd (omega (arith, run-first inName b s e))
     by-test false e = refl
 
 pub name-length : (s : List ℕ) → length (take (nameRun s) s) ≡ nameRun s
@@ -67,15 +67,15 @@ name-length s = length-take (nameRun s) s ∙ omega (arith, name-fits s)
 pub name-tokens : (s : List ℕ) → 1 ≤ nameRun s → tokens s ≡ name (take (nameRun s) s) ∷ tokens (drop (nameRun s) s)
 name-tokens s h =
     let l : 1 ≤ length (take (nameRun s) s) = omega (arith, name-length s) in
-    let ends : Ends (drop (nameRun s) s) = no-name-ends (drop (nameRun s) s) (run-done name-run s) in
+    let ends : NameEnds (drop (nameRun s) s) = no-name-ends (drop (nameRun s) s) (run-done inName s) in
     ap tokens (sym (take-append-drop (nameRun s) s)) ∙ tokens-name (take (nameRun s) s) (drop (nameRun s) s) l (name-all s) ends
 
 -- What a text begins with where no gap does: nothing, a name or a sign.
 pub name-starts : (b : ℕ) (s : List ℕ) → inName (classOf b) ≡ true → 1 ≤ nameRun (b ∷ s)
-name-starts b s h = omega (arith, run-first name-run b s h)
+name-starts b s h = omega (arith, run-first inName b s h)
 
 pub sign-starts : (b : ℕ) (s : List ℕ) → gapRun (b ∷ s) ≡ 0 → inName (classOf b) ≡ false → classOf b ≡ sign
-unfolding gapRun
+unfolding runOf
 sign-starts b s = by-class (classOf b)
   where
     by-class : (c : Class) → cond (inGap c) (suc (gapRun s)) 0 ≡ 0 → inName c ≡ false → c ≡ sign

@@ -18,18 +18,18 @@ use Rattle.text.specs.Reading.{mostBytes, anyForeign, meant, tooShort, readerNu
 use Rattle.reader.specs.Steps.{spellingNumber, answerFor}
 
 -- Numbers 1 to 3: they come first, and where none of them applies the others are left.
-abbrev three : Bool → Bool → Bool → List (Test ℕ) → List (Test ℕ)
-three a b c ts = (a ⇒ 1) ∷ (b ⇒ 2) ∷ (c ⇒ 3) ∷ ts
+abbrev firstThree : Bool → Bool → Bool → List (Test ℕ) → List (Test ℕ)
+firstThree a b c ts = (a ⇒ 1) ∷ (b ⇒ 2) ∷ (c ⇒ 3) ∷ ts
 
-first-of-three : (a b c : Bool) (ts : List (Test ℕ)) (k : ℕ) → k ≡ Option·getD (first (three a b c [])) 0 → (k ≡ 0 → ⊥)
-    → first (three a b c ts) ≡ some k
+first-of-three : (a b c : Bool) (ts : List (Test ℕ)) (k : ℕ) → k ≡ Option·getD (first (firstThree a b c [])) 0 → (k ≡ 0 → ⊥)
+    → first (firstThree a b c ts) ≡ some k
 first-of-three true b c ts k e n = ap some (sym e)
 first-of-three false true c ts k e n = ap some (sym e)
 first-of-three false false true ts k e n = ap some (sym e)
 first-of-three false false false ts k e n = absurd (n e)
 
-none-of-three : (a b c : Bool) (ts : List (Test ℕ)) → _≡_ {A = ℕ} 0 (Option·getD (first (three a b c [])) 0)
-    → (a ≡ false) × (first (three a b c ts) ≡ first ts)
+none-of-three : (a b c : Bool) (ts : List (Test ℕ)) → _≡_ {A = ℕ} 0 (Option·getD (first (firstThree a b c [])) 0)
+    → (a ≡ false) × (first (firstThree a b c ts) ≡ first ts)
 none-of-three true b c ts e = absurd (omega arith)
 none-of-three false true c ts e = absurd (omega arith)
 none-of-three false false true ts e = absurd (omega arith)

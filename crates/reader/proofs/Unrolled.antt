@@ -1,16 +1,17 @@
 -- The readings of tokens as deep as they need call on each other as the grammar does.
-use mathlib.Core.Path.{_≡_, refl, ap, _∙_}
-use mathlib.Core.Option.{some}
-use mathlib.Core.List.{List, _∷_}
+use mathlib.Core.Path.{_≡_, refl, sym, ap, _∙_}
+use mathlib.Core.Bool.{Bool, true, false, false≢true}
+use mathlib.Core.Option.{Option, none, some}
+use mathlib.Core.List.{List, [], _∷_}
 use Prim.Native.Nat.{ℕ, suc, _+_, _*_, _≤_}
 use native.Mathlib.Nat.{le-refl}
 use native.Mathlib.Omega.{arith}
 use lib.ListN.{length}
 use Rattle.term.specs.Choice.{_>>=_, choose, ifSome}
 use Rattle.text.specs.Bytes.{lambda, dot, opening}
-use Rattle.text.specs.Tokens.{Token, mark}
-use Rattle.text.specs.Grammar.{no-more, named, atomTokens}
-use Rattle.text.specs.Parse.{parsed, afterMark, nameFirst, startsAtom, phraseAt, atomsAt, atomAt}
+use Rattle.text.specs.Tokens.{Token, mark, name}
+use Rattle.text.specs.Grammar.{Phrase, atoms, Atoms, no-more, _and_, Atom, named, atomTokens}
+use Rattle.text.specs.Parse.{Parsed, parsed, afterMark, nameFirst, startsAtom, phraseAt, atomsAt, atomAt}
 use Rattle.reader.specs.Answers.{phraseFrom, atomsFrom, atomFrom, abstractionFrom, applicationFrom, moreFrom, bracketedFrom}
 use Rattle.text.proofs.Each.{Each, bind-same, bind-steady, bind-ap, if-same, choose-same}
 use Rattle.text.proofs.Spelt.{Spelt, nameTokens, after-spelt, name-spelt, atom-spelt, atom-shorter}
@@ -79,3 +80,37 @@ unfolding atomFrom
 atom-from ts =
     let e : 3 * length ts + 1 ≡ suc (3 * length ts) = omega arith in
     ap (λ (f : ℕ). atomAt f ts) e ∙ atom-next (3 * length ts) ts (le-refl _)
+
+-- An application is the atoms that are there, where there are some.
+no-atom : (ts : List Token) → startsAtom ts ≡ false → atomFrom ts ≡ none
+no-atom [] e = atom-from []
+no-atom (mark c ∷ ts) e = atom-from (mark c ∷ ts) ∙ rw e
+no-atom (name x ∷ ts) e = absurd (false≢true (sym e))
+
+abbrev pub asPhrase : Parsed Atoms → Option (Parsed Phrase)
+asPhrase p = byAtoms (p .value)
+  where
+    byAtoms : Atoms → Option (Parsed Phrase)
+    byAtoms no-more = none
+    byAtoms (b and bs) = some (parsed (atoms b bs) (p .left))
+
+application-more : (ts : List Token) → applicationFrom ts ≡ (moreFrom ts >>= asPhrase)
+application-more ts = by-atom (atomFrom ts)
+  where
+    by-atoms : (b : Atom) (o : Option (Parsed Atoms))
+        → (o >>= λ bs. some (parsed (atoms b (bs .value)) (bs .left))) ≡ ((o >>= λ bs. some (parsed (b and bs .value) (bs .left))) >>= asPhrase)
+    by-atoms b none = refl
+    by-atoms b (some bs) = refl
+
+    by-atom : (o : Option (Parsed Atom))
+        → (o >>= λ a. atomsFrom (a .left) >>= λ bs. some (parsed (atoms (a .value) (bs .value)) (bs .left)))
+        ≡ ((o >>= λ b. atomsFrom (b .left) >>= λ bs. some (parsed (b .value and bs .value) (bs .left))) >>= asPhrase)
+    by-atom none = refl
+    by-atom (some a) = by-atoms (a .value) (atomsFrom (a .left))
+
+pub application-from : (ts : List Token) → applicationFrom ts ≡ (atomsFrom ts >>= asPhrase)
+application-from ts = by-start (startsAtom ts) refl
+  where
+    by-start : (s : Bool) → startsAtom ts ≡ s → applicationFrom ts ≡ (atomsFrom ts >>= asPhrase)
+    by-start true e = application-more ts ∙ sym (rw (atoms-from ts, e))
+    by-start false e = rw (no-atom ts e) (sym (rw (atoms-from ts, e)))

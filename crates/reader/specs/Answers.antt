@@ -3,7 +3,7 @@ use mathlib.Core.Path.{_≡_}
 use mathlib.Core.Option.{Option, none, some}
 use mathlib.Core.List.{List, [], _++_}
 use Prim.Native.Nat.{ℕ, suc, _+_, _*_, _-_, _≤_, _<_}
-use lib.ListN.{length, take, drop}
+use lib.ListN.{length, take, drop, replicate}
 use lib.Seq.{sets}
 use Rattle.term.specs.Choice.{_>>=_}
 use Rattle.text.specs.Bytes.{dot, closing}
@@ -17,8 +17,6 @@ use Rattle.reader.specs.declared.token.First.{First}
 use Rattle.reader.specs.declared.token.First.the-variants.{Name as IsName, NoName}
 use Rattle.reader.specs.declared.grammar.Got.{Got}
 use Rattle.reader.specs.declared.grammar.Got.the-variants.{Read, Not}
-use Rattle.reader.specs.declared.grammar.Many.{Many}
-use Rattle.reader.specs.declared.grammar.Many.the-variants.{Run, Bad}
 
 -- The readings of tokens as deep as they need.
 unfoldable pub phraseFrom : List Token → Option (Parsed Phrase)
@@ -55,12 +53,13 @@ abbrev pub atomsCode : Atoms → List Name → List ℕ
 atomsCode no-more names = []
 atomsCode (b and bs) names = atomCode b names ++ atomsCode bs names
 
-abbrev pub howMany : Atoms → ℕ
-howMany no-more = 0
-howMany (b and bs) = suc (howMany bs)
+-- how many there are
+abbrev pub atomCount : Atoms → ℕ
+atomCount no-more = 0
+atomCount (b and bs) = suc (atomCount bs)
 
 -- Where a function begins: a position in the text, a scope of so many names, and a word of the slice that the code goes to.
-pub record Place : Type 0 where
+pub record Cursor : Type 0 where
   pub text : List ℕ
   pub at : ℕ
   pub scope : List ℕ
@@ -68,17 +67,18 @@ pub record Place : Type 0 where
   pub out : List ℕ
   pub node : ℕ
 
-abbrev pub place : List ℕ → ℕ → List ℕ → ℕ → List ℕ → ℕ → Place
-place text at scope depth out node = record { text = text; at = at; scope = scope; depth = depth; out = out; node = node }
+abbrev pub cursor : List ℕ → ℕ → List ℕ → ℕ → List ℕ → ℕ → Cursor
+cursor text at scope depth out node = record { text = text; at = at; scope = scope; depth = depth; out = out; node = node }
 
-abbrev pub ahead : List ℕ → ℕ → List Token
-ahead text at = tokens (drop at text)
+-- the tokens from a position on, and the names that are bound where a function begins
+abbrev pub tokensFrom : List ℕ → ℕ → List Token
+tokensFrom text at = tokens (drop at text)
 
-abbrev pub around : Place → List Name
-around w = namesAt (w .text) (take (w .depth) (w .scope)) []
+abbrev pub namesAround : Cursor → List Name
+namesAround w = namesAt (w .text) (take (w .depth) (w .scope)) []
 
 -- Each byte that is left may bind a name and give two words.
-pub record Room (w : Place) : Type 0 where
+pub record CodeRoom (w : Cursor) : Type 0 where
   pub within : w .at ≤ length (w .text)
   pub names : w .depth + (length (w .text) - w .at) ≤ length (w .scope)
   pub words : w .node + 2 * (length (w .text) - w .at) ≤ length (w .out)
@@ -86,45 +86,64 @@ pub record Room (w : Place) : Type 0 where
   pub few : length (w .scope) ≤ 3000
 
 -- Something was read up to p, and its code stands in front of word m, with room for `more` words to be put before it. The names around are as they were.
-pub record ReadTo {A : Type 0} (from : List Token → Option (Parsed A)) (code : A → List Name → List ℕ) (w : Place) (p m more : ℕ) (scope′ out′ : List ℕ) : Type 0 where
+pub record ReadTo {A : Type 0} (from : List Token → Option (Parsed A)) (code : A → List Name → List ℕ) (w : Cursor) (p m more : ℕ) (scope′ out′ : List ℕ) : Type 0 where
   pub value : A
-  pub is : from (ahead (w .text) (w .at)) ≡ some (parsed value (ahead (w .text) p))
+  pub is : from (tokensFrom (w .text) (w .at)) ≡ some (parsed value (tokensFrom (w .text) p))
   pub on : w .at ≤ p
   pub within : p ≤ length (w .text)
   pub room : m + more ≤ w .node + 2 * (p - w .at)
-  pub next : m ≡ w .node + length (code value (around w))
-  pub wrote : out′ ≡ sets (w .out) (w .node) (code value (around w))
+  pub next : m ≡ w .node + length (code value (namesAround w))
+  pub wrote : out′ ≡ sets (w .out) (w .node) (code value (namesAround w))
   pub kept : take (w .depth) scope′ ≡ take (w .depth) (w .scope)
 
-abbrev pub Answer : {A : Type 0} → (List Token → Option (Parsed A)) → (A → List Name → List ℕ) → Place → Got → List ℕ → List ℕ → Type 0
-Answer from code w (Read p m) scope′ out′ = ReadTo from code w p m 1 scope′ out′
-Answer from code w Not scope′ out′ = from (ahead (w .text) (w .at)) ≡ none
+abbrev pub CodeAnswer : {A : Type 0} → (List Token → Option (Parsed A)) → (A → List Name → List ℕ) → Cursor → Got → List ℕ → List ℕ → Type 0
+CodeAnswer from code w (Read p m) scope′ out′ = ReadTo from code w p m 1 scope′ out′
+CodeAnswer from code w Not scope′ out′ = from (tokensFrom (w .text) (w .at)) ≡ none
 
--- the same for the atoms after the first, with how many there are
-pub record RunTo (w : Place) (p m k : ℕ) (scope′ out′ : List ℕ) : Type 0 where
-  pub run : ReadTo atomsFrom atomsCode w p m k scope′ out′
-  pub many : k ≡ howMany (run .value)
+-- What these functions promise of their answer r and of what they leave at exit, from what they were lent at entry: text, scope and slice, with a position in each.
+abbrev pub ReadPromise : Type 1
+ReadPromise = List ℕ → ℕ → List ℕ → ℕ → List ℕ → ℕ → Got → List ℕ → List ℕ → Type 0
 
-abbrev pub Answers : Place → Many → List ℕ → List ℕ → Type 0
-Answers w (Run p m k) scope′ out′ = RunTo w p m k scope′ out′
-Answers w Bad scope′ out′ = atomsFrom (ahead (w .text) (w .at)) ≡ none
+-- `term` reads a term,
+abbrev pub TermRead : ReadPromise
+TermRead text at scope depth out node r scope′ out′ = CodeAnswer phraseFrom phraseCode (cursor text at scope depth out node) r scope′ out′
+
+-- `abstraction` a term after its `\`,
+abbrev pub BodyRead : ReadPromise
+BodyRead text at scope depth out node r scope′ out′ = CodeAnswer abstractionFrom phraseCode (cursor text at scope depth out node) r scope′ out′
+
+-- `application` a term that is atoms,
+abbrev pub AtomsRead : ReadPromise
+AtomsRead text at scope depth out node r scope′ out′ = CodeAnswer applicationFrom phraseCode (cursor text at scope depth out node) r scope′ out′
+
+-- `atom` an atom,
+abbrev pub AtomRead : ReadPromise
+AtomRead text at scope depth out node r scope′ out′ = CodeAnswer atomFrom atomCode (cursor text at scope depth out node) r scope′ out′
+
+-- and `brackets` a term in brackets, after the opening one.
+abbrev pub InnerRead : ReadPromise
+InnerRead text at scope depth out node r scope′ out′ = CodeAnswer bracketedFrom atomCode (cursor text at scope depth out node) r scope′ out′
+
+-- What `marks` promises: where the words from `first` to `end` are ws, written over b, then `by` marks of applications stand in front of them.
+abbrev pub Marked : ℕ → ℕ → ℕ → List ℕ → List ℕ → Type 0
+Marked first end by out out′ = (b ws : List ℕ) → out ≡ sets b first ws → end ≡ first + length ws → out′ ≡ sets b first (replicate by 2 ++ ws)
 
 -- The next token at a position: a given sign, with where the text goes on, or not; a name, with where it stands and ends, or none.
 pub record MarkTo (b : ℕ) (text : List ℕ) (at p : ℕ) : Type 0 where
-  pub is : afterMark b (ahead text at) ≡ some (ahead text p)
+  pub is : afterMark b (tokensFrom text at) ≡ some (tokensFrom text p)
   pub on : at < p
   pub within : p ≤ length text
 
 abbrev pub AfterIs : ℕ → List ℕ → ℕ → After → Type 0
 AfterIs b text at (Mark p) = MarkTo b text at p
-AfterIs b text at NoMark = afterMark b (ahead text at) ≡ none
+AfterIs b text at NoMark = afterMark b (tokensFrom text at) ≡ none
 
 pub record NameTo (text : List ℕ) (at x p : ℕ) : Type 0 where
-  pub is : nameFirst (ahead text at) ≡ some (parsed (nameAt text x) (ahead text p))
+  pub is : nameFirst (tokensFrom text at) ≡ some (parsed (nameAt text x) (tokensFrom text p))
   pub on : at < p
   pub within : p ≤ length text
   pub stands : x ≤ length text
 
 abbrev pub FirstIs : List ℕ → ℕ → First → Type 0
 FirstIs text at (IsName x p) = NameTo text at x p
-FirstIs text at NoName = nameFirst (ahead text at) ≡ none
+FirstIs text at NoName = nameFirst (tokensFrom text at) ≡ none

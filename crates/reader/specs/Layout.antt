@@ -2,23 +2,19 @@
 use mathlib.Core.Path.{_≡_}
 use mathlib.Core.Bool.{Bool, false, _||_}
 use mathlib.Core.List.{List, [], _∷_, _++_}
-use Prim.Native.Nat.{ℕ, zero, suc, _+_, _*_, _≤_}
-use lib.ListN.{getD, drop}
+use Prim.Native.Nat.{ℕ, suc, _+_, _*_, _≤_}
+use lib.ListN.{length, drop}
 use lib.Seq.{sets}
 use lib.Dec.{eqb}
 use Rattle.term.specs.Term.{Term, size, Closed, ClosedUnder}
-use Rattle.term.specs.Table.{rowsOf}
+use Rattle.term.specs.Table.{rowsOf, tableOf}
 use Rattle.term.specs.Accepted.{mostNodes}
 use Rattle.term.specs.Code.{codeOf}
-
--- The first d words of a scope are the nodes of the binders around a part, the innermost last; here they are, the innermost first.
-unfoldable pub binders : List ℕ → ℕ → List ℕ
-binders scope zero = []
-binders scope (suc d) = getD scope d 0 ∷ binders scope d
+use Rattle.term.specs.Walk.{bindersIn}
 
 -- The part's code stands after those of `before` nodes, each variable has its binder in the part or among d around it,
 -- and there is room for its binders and its rows.
-pub record Ready (code : List ℕ) (before d scopeLength tableLength : ℕ) (t : Term) : Type 0 where
+pub record Layable (code : List ℕ) (before d scopeLength tableLength : ℕ) (t : Term) : Type 0 where
   pub rest : List ℕ
   pub stands : drop before code ≡ codeOf t ++ rest
   pub closed : ClosedUnder d t
@@ -29,8 +25,13 @@ pub record Ready (code : List ℕ) (before d scopeLength tableLength : ℕ) (t :
 -- r nodes are laid out then, the binders around are kept, and the part's rows are written.
 pub record Laid (before p v d : ℕ) (scope table : List ℕ) (r : ℕ) (scope′ table′ : List ℕ) (t : Term) : Type 0 where
   pub next : r ≡ before + size t
-  pub kept : binders scope′ d ≡ binders scope d
-  pub wrote : table′ ≡ sets table (5 * before) (rowsOf t (binders scope d) (suc before) p v)
+  pub kept : bindersIn scope′ d ≡ bindersIn scope d
+  pub wrote : table′ ≡ sets table (5 * before) (rowsOf t (bindersIn scope d) (suc before) p v)
+
+-- What `rows` promises, from what it was lent at entry: it lays out every term that is ready there. (Only one is; the caller knows which.)
+abbrev pub RowsLaid : List ℕ → ℕ → ℕ → ℕ → ℕ → List ℕ → List ℕ → ℕ → List ℕ → List ℕ → Type 0
+RowsLaid code before p v d scope table r scope′ table′ =
+    (t : Term) → Layable code before d (length scope) (length table) t → Laid before p v d scope table r scope′ table′ t
 
 -- The code begins with a closed term's, and its table has room.
 pub record Whole (code : List ℕ) (tableLength : ℕ) (t : Term) : Type 0 where
@@ -39,6 +40,10 @@ pub record Whole (code : List ℕ) (tableLength : ℕ) (t : Term) : Type 0 where
   pub closed : Closed t
   pub few-nodes : size t ≤ mostNodes
   pub room : 5 * size t ≤ tableLength
+
+-- What `lay_out` promises, from what it was lent at entry: the term's table stands in front of what followed it.
+abbrev pub TableLaid : List ℕ → List ℕ → List ℕ → Type 0
+TableLaid code table table′ = (t : Term) → Whole code (length table) t → table′ ≡ tableOf t ++ drop (5 * size t) table
 
 -- whether a word is 0: the word of a name without a binder
 abbrev pub anyZero : List ℕ → Bool

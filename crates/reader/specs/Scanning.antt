@@ -17,15 +17,18 @@ inGap blank = true
 inGap sign = false
 inGap foreign = true
 
--- how many bytes of a name the text begins with
-unfoldable pub nameRun : List ℕ → ℕ
-nameRun [] = 0
-nameRun (b ∷ s) = cond (inName (classOf b)) (suc (nameRun s)) 0
+-- how many bytes of such classes the text begins with
+unfoldable pub runOf : (Class → Bool) → List ℕ → ℕ
+runOf is [] = 0
+runOf is (b ∷ s) = cond (is (classOf b)) (suc (runOf is s)) 0
 
--- how many bytes stand before its first token
-unfoldable pub gapRun : List ℕ → ℕ
-gapRun [] = 0
-gapRun (b ∷ s) = cond (inGap (classOf b)) (suc (gapRun s)) 0
+-- how many of a name
+abbrev pub nameRun : List ℕ → ℕ
+nameRun s = runOf inName s
+
+-- how many stand before its first token
+abbrev pub gapRun : List ℕ → ℕ
+gapRun s = runOf inGap s
 
 -- the name that stands at a position
 abbrev pub nameAt : List ℕ → ℕ → Name

@@ -12,8 +12,11 @@ use Rattle.term.specs.Accepted.{mostNodes}
 use Rattle.text.specs.Tokens.{tokens, anyBadName}
 use Rattle.text.specs.Grammar.{Phrase, Tree, phraseTree}
 use Rattle.text.specs.Parse.{parse}
+use Rattle.text.specs.Binding.{nameless}
 use Rattle.text.specs.Reading.{Read, mostBytes, anyForeign, refused, laidOut}
 use Rattle.reader.specs.Scanning.{treeCode}
+use Rattle.reader.specs.Types.{readMeant}
+use Rattle.reader.specs.declared.Reading.{Reading}
 use Rattle.reader.specs.declared.Coded.{Coded}
 use Rattle.reader.specs.declared.Coded.the-variants.{Words, NoTerm}
 
@@ -50,3 +53,8 @@ CodedIs text NoTerm code = parse (tokens text) ≡ none
 abbrev pub answerFor : Option Term → List ℕ → Read
 answerFor none table = refused 5 table
 answerFor (some t) table = cond (ltb (length table) (5 * size t)) (refused 6 table) (laidOut t table)
+
+-- What `answer_for` promises, from the code and the table that it was lent at entry: that answer, to every tree that the code is of. (It is of one; the caller
+-- knows which.)
+abbrev pub AnsweredFor : List ℕ → ℕ → Reading → List ℕ → List ℕ → Type 0
+AnsweredFor code n r table table′ = (t : Tree) → InCode code n t → readMeant r table′ ≡ answerFor (nameless t []) table

@@ -1,10 +1,7 @@
 // Reading by the grammar: a term, an application and an atom, which call on each other, into the preorder code of what is read.
-ghost use mathlib.Core.Path.{_≡_};
-ghost use mathlib.Core.List.{List, _++_};
-ghost use Prim.Native.Nat.{ℕ, _+_, _≤_};
-ghost use lib.ListN.{length, replicate};
-ghost use lib.Seq.{sets};
-ghost use Rattle.reader.specs.Answers.{place, Room, Answer, Answers, phraseFrom, abstractionFrom, applicationFrom, atomFrom, bracketedFrom, phraseCode, atomCode};
+ghost use Prim.Native.Nat.{_+_, _≤_};
+ghost use lib.ListN.{length};
+ghost use Rattle.reader.specs.Answers.{cursor, CodeRoom, TermRead, BodyRead, AtomsRead, AtomRead, InnerRead, Marked};
 use crate::scan::variable_word;
 use crate::token::After;
 use crate::token::First;
@@ -18,12 +15,6 @@ pub(crate) enum Got {
     Not,
 }
 
-// The same for the atoms after the first, and how many there are.
-pub(crate) enum Many {
-    Run(usize, usize, usize),
-    Bad,
-}
-
 pub(crate) fn term(
     text: &[u8],
     at: usize,
@@ -32,8 +23,8 @@ pub(crate) fn term(
     out: &mut [u32],
     node: usize,
 ) -> Got
-    requires { ⌜ Room (place (now text) at (now scope) depth (now out) node) ⌝ }
-    ensures { λ r. ⌜ Answer phraseFrom phraseCode (place (now (text .entry)) at (now (scope .entry)) depth (now (out .entry)) node) r (now (scope .exit)) (now (out .exit)) ⌝ }
+    requires { ⌜ CodeRoom (cursor (now text) at (now scope) depth (now out) node) ⌝ }
+    ensures { λ r. ⌜ TermRead (now (text .entry)) at (now (scope .entry)) depth (now (out .entry)) node r (now (scope .exit)) (now (out .exit)) ⌝ }
 {
     let first = after_mark(text, at, b'\\');
     match first {
@@ -51,8 +42,8 @@ fn abstraction(
     out: &mut [u32],
     node: usize,
 ) -> Got
-    requires { ⌜ Room (place (now text) at (now scope) depth (now out) node) ⌝ }
-    ensures { λ r. ⌜ Answer abstractionFrom phraseCode (place (now (text .entry)) at (now (scope .entry)) depth (now (out .entry)) node) r (now (scope .exit)) (now (out .exit)) ⌝ }
+    requires { ⌜ CodeRoom (cursor (now text) at (now scope) depth (now out) node) ⌝ }
+    ensures { λ r. ⌜ BodyRead (now (text .entry)) at (now (scope .entry)) depth (now (out .entry)) node r (now (scope .exit)) (now (out .exit)) ⌝ }
 {
     let first = name_first(text, at);
     match first {
@@ -71,7 +62,8 @@ fn abstraction(
     }
 }
 
-// The atoms are written one after another, and then the marks of their applications in front of them.
+// The atoms are written one after another, for as long as one begins, and then the marks of their applications in front of them. A loop, and
+// not a call for each atom, so that the stack deepens with brackets and abstractions alone.
 fn application(
     text: &[u8],
     at: usize,
@@ -80,52 +72,30 @@ fn application(
     out: &mut [u32],
     node: usize,
 ) -> Got
-    requires { ⌜ Room (place (now text) at (now scope) depth (now out) node) ⌝ }
-    ensures { λ r. ⌜ Answer applicationFrom phraseCode (place (now (text .entry)) at (now (scope .entry)) depth (now (out .entry)) node) r (now (scope .exit)) (now (out .exit)) ⌝ }
+    requires { ⌜ CodeRoom (cursor (now text) at (now scope) depth (now out) node) ⌝ }
+    ensures { λ r. ⌜ AtomsRead (now (text .entry)) at (now (scope .entry)) depth (now (out .entry)) node r (now (scope .exit)) (now (out .exit)) ⌝ }
 {
-    let first = atom(text, at, scope, depth, out, node);
-    match first {
-        Got::Read(p, m) => {
-            let rest = more(text, p, scope, depth, out, m);
-            match rest {
-                Many::Run(q, n, k) => {
-                    marks(out, node, n, k);
-                    Got::Read(q, n + k)
-                }
-                Many::Bad => Got::Not,
+    let mut p = at;
+    let mut m = node;
+    let mut k = 0;
+    while starts_atom(text, p) {
+        let next = atom(text, p, scope, depth, out, m);
+        match next {
+            Got::Read(q, n) => {
+                p = q;
+                m = n;
+                k += 1;
+            }
+            Got::Not => {
+                return Got::Not;
             }
         }
-        Got::Not => Got::Not,
     }
-}
-
-// The atoms after the first.
-fn more(
-    text: &[u8],
-    at: usize,
-    scope: &mut [u32],
-    depth: usize,
-    out: &mut [u32],
-    node: usize,
-) -> Many
-    requires { ⌜ Room (place (now text) at (now scope) depth (now out) node) ⌝ }
-    ensures { λ r. ⌜ Answers (place (now (text .entry)) at (now (scope .entry)) depth (now (out .entry)) node) r (now (scope .exit)) (now (out .exit)) ⌝ }
-{
-    if starts_atom(text, at) {
-        let first = atom(text, at, scope, depth, out, node);
-        match first {
-            Got::Read(p, m) => {
-                let rest = more(text, p, scope, depth, out, m);
-                match rest {
-                    Many::Run(q, n, k) => Many::Run(q, n, k + 1),
-                    Many::Bad => Many::Bad,
-                }
-            }
-            Got::Not => Many::Bad,
-        }
-    } else {
-        Many::Run(at, node, 0)
+    if k == 0 {
+        return Got::Not;
     }
+    marks(out, node, m, k - 1);
+    Got::Read(p, m + (k - 1))
 }
 
 fn atom(
@@ -136,8 +106,8 @@ fn atom(
     out: &mut [u32],
     node: usize,
 ) -> Got
-    requires { ⌜ Room (place (now text) at (now scope) depth (now out) node) ⌝ }
-    ensures { λ r. ⌜ Answer atomFrom atomCode (place (now (text .entry)) at (now (scope .entry)) depth (now (out .entry)) node) r (now (scope .exit)) (now (out .exit)) ⌝ }
+    requires { ⌜ CodeRoom (cursor (now text) at (now scope) depth (now out) node) ⌝ }
+    ensures { λ r. ⌜ AtomRead (now (text .entry)) at (now (scope .entry)) depth (now (out .entry)) node r (now (scope .exit)) (now (out .exit)) ⌝ }
 {
     let first = name_first(text, at);
     match first {
@@ -165,8 +135,8 @@ fn brackets(
     out: &mut [u32],
     node: usize,
 ) -> Got
-    requires { ⌜ Room (place (now text) at (now scope) depth (now out) node) ⌝ }
-    ensures { λ r. ⌜ Answer bracketedFrom atomCode (place (now (text .entry)) at (now (scope .entry)) depth (now (out .entry)) node) r (now (scope .exit)) (now (out .exit)) ⌝ }
+    requires { ⌜ CodeRoom (cursor (now text) at (now scope) depth (now out) node) ⌝ }
+    ensures { λ r. ⌜ InnerRead (now (text .entry)) at (now (scope .entry)) depth (now (out .entry)) node r (now (scope .exit)) (now (out .exit)) ⌝ }
 {
     let inner = term(text, at, scope, depth, out, node);
     match inner {
@@ -184,7 +154,7 @@ fn brackets(
 // Moves the words from `first` to `end` up by `by`, and puts `by` marks of applications in front of them.
 fn marks(out: &mut [u32], first: usize, end: usize, by: usize)
     requires { ⌜ (first ≤ end) × (end + by ≤ length (now out)) ⌝ }
-    ensures { λ _. ⌜ ((b ws : List ℕ) → now (out .entry) ≡ sets b first ws → end ≡ first + length ws → now (out .exit) ≡ sets b first (replicate by 2 ++ ws)) ⌝ }
+    ensures { λ _. ⌜ Marked first end by (now (out .entry)) (now (out .exit)) ⌝ }
 {
     let mut i = end;
     while first < i {

@@ -1,12 +1,11 @@
 // The rows of a closed term, from its preorder code.
 ghost use mathlib.Core.Path.{_≡_};
-ghost use mathlib.Core.List.{_++_};
 ghost use Prim.Native.Nat.{_+_, _*_, _≤_, _<_};
-ghost use lib.ListN.{length, take, drop};
+ghost use lib.ListN.{length, take};
 ghost use lib.Seq.{sets};
-ghost use Rattle.term.specs.Term.{Term, size};
-ghost use Rattle.term.specs.Table.{row, tableOf};
-ghost use Rattle.reader.specs.Layout.{Ready, Laid, Whole, anyZero};
+ghost use Rattle.term.specs.Term.{Term};
+ghost use Rattle.term.specs.Table.{row};
+ghost use Rattle.reader.specs.Layout.{Layable, RowsLaid, Whole, TableLaid, anyZero};
 
 // Whether one of the first n words is 0.
 pub(crate) fn any_zero(code: &[u32], n: usize) -> bool
@@ -48,8 +47,9 @@ fn rows(
     depth: usize,
     table: &mut [u32],
 ) -> u32
-    requires { ⌜ (level ≤ laid) × ((t : Term) × Ready (now code) laid depth (length (now scope)) (length (now table)) t) ⌝ }
-    ensures { λ r. ⌜ ((t : Term) → Ready (now (code .entry)) laid depth (length (now (scope .entry))) (length (now (table .entry))) t → Laid laid parent level depth (now (scope .entry)) (now (table .entry)) r (now (scope .exit)) (now (table .exit)) t) ⌝ }
+    requires { ⌜ (level ≤ laid) × ((t : Term) × Layable (now code) laid depth (length (now scope)) (length (now table)) t) ⌝ }
+    ensures { λ r. ⌜ RowsLaid (now (code .entry)) laid parent level depth (now (scope .entry)) (now (table .entry)) r
+        (now (scope .exit)) (now (table .exit)) ⌝ }
 {
     let word = code[laid as usize];
     let node = laid + 1;
@@ -73,7 +73,7 @@ fn rows(
 // The table of the closed term whose code these words begin with. Words after its rows keep their values.
 pub(crate) fn lay_out(code: &[u32], table: &mut [u32])
     requires { ⌜ ((t : Term) × Whole (now code) (length (now table)) t) ⌝ }
-    ensures { λ _. ⌜ ((t : Term) → Whole (now (code .entry)) (length (now (table .entry))) t → now (table .exit) ≡ tableOf t ++ drop (5 * size t) (now (table .entry))) ⌝ }
+    ensures { λ _. ⌜ TableLaid (now (code .entry)) (now (table .entry)) (now (table .exit)) ⌝ }
 {
     let mut scope = [0u32; 3000];
     rows(code, 0, 0, 0, &mut scope, 0, table);

@@ -1,13 +1,11 @@
 // The reader: the text of a closed term to its table.
 ghost use mathlib.Core.Path.{_≡_};
-ghost use mathlib.Core.List.{[]};
 ghost use Prim.Native.Nat.{_≤_};
 ghost use lib.ListN.{length};
 ghost use Rattle.text.specs.Grammar.{Tree};
-ghost use Rattle.text.specs.Binding.{nameless};
 ghost use Rattle.text.specs.Reading.{readOf};
 ghost use Rattle.reader.specs.Types.{readMeant, refusedReading};
-ghost use Rattle.reader.specs.Steps.{spellingNumber, InCode, CodedIs, answerFor};
+ghost use Rattle.reader.specs.Steps.{spellingNumber, InCode, CodedIs, AnsweredFor};
 use grammar::Got;
 
 mod bytes;
@@ -33,7 +31,7 @@ pub fn read(text: &[u8], table: &mut [u32]) -> Reading
     let mut code = [0u32; 6000];
     let coded = code_of(text, &mut code);
     match coded {
-        Coded::Words(n) => answer(&code, n, table),
+        Coded::Words(n) => answer_for(&code, n, table),
         Coded::NoTerm => refused(4),
     }
 }
@@ -89,9 +87,9 @@ fn code_of(text: &[u8], code: &mut [u32]) -> Coded
 }
 
 // Numbers 5 and 6, and the table where neither applies.
-fn answer(code: &[u32], n: usize, table: &mut [u32]) -> Reading
+fn answer_for(code: &[u32], n: usize, table: &mut [u32]) -> Reading
     requires { ⌜ ((t : Tree) × InCode (now code) n t) ⌝ }
-    ensures { λ r. ⌜ ((t : Tree) → InCode (now (code .entry)) n t → readMeant r (now (table .exit)) ≡ answerFor (nameless t []) (now (table .entry))) ⌝ }
+    ensures { λ r. ⌜ AnsweredFor (now (code .entry)) n r (now (table .entry)) (now (table .exit)) ⌝ }
 {
     let count = n as u32;
     if layout::any_zero(code, n) {

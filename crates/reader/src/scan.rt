@@ -3,104 +3,52 @@ ghost use mathlib.Core.Path.{_≡_};
 ghost use mathlib.Core.List.{[]};
 ghost use Prim.Native.Nat.{_+_, _-_, _≤_, _<_};
 ghost use lib.ListN.{length, take, drop};
-ghost use Rattle.text.specs.Bytes.{classOf, isForeign, isDigit, inName};
 ghost use Rattle.text.specs.Tokens.{tokens, isBadName, anyBadName};
 ghost use Rattle.text.specs.Binding.{sameName, indexOf};
 ghost use Rattle.text.specs.Reading.{anyForeign};
-ghost use Rattle.reader.specs.Scanning.{inGap, nameRun, gapRun, nameAt, namesAt, variableWord};
-use crate::bytes::Class;
-use crate::bytes::class_of;
+ghost use Rattle.reader.specs.Scanning.{runOf, nameRun, gapRun, nameAt, namesAt, variableWord};
+ghost use Rattle.reader.specs.Types.{isOneOf};
+use crate::bytes::Classes;
+use crate::bytes::DIGIT;
+use crate::bytes::IN_GAP;
+use crate::bytes::IN_NAME;
+use crate::bytes::NOT_FOREIGN;
+use crate::bytes::is_one_of;
 
-pub(crate) fn in_name(b: u8) -> bool
-    ensures { λ r. ⌜ r ≡ inName (classOf b) ⌝ }
+// Where the run of bytes of these classes that stands at `at` ends; `at` itself where none does.
+fn run_end(text: &[u8], at: usize, classes: Classes) -> usize
+    ensures { λ r. ⌜ r ≡ at + runOf (isOneOf classes) (drop at (now (text .entry))) ⌝ }
 {
-    match class_of(b) {
-        Class::Letter => true,
-        Class::Digit => true,
-        Class::Blank => false,
-        Class::Sign => false,
-        Class::Foreign => false,
+    let mut i = at;
+    while i < text.len() {
+        if is_one_of(text[i], classes) {
+            i += 1;
+        } else {
+            return i;
+        }
     }
-}
-
-pub(crate) fn in_gap(b: u8) -> bool
-    ensures { λ r. ⌜ r ≡ inGap (classOf b) ⌝ }
-{
-    match class_of(b) {
-        Class::Letter => false,
-        Class::Digit => false,
-        Class::Blank => true,
-        Class::Sign => false,
-        Class::Foreign => true,
-    }
+    i
 }
 
 // Where the name that stands at `at` ends; `at` itself where no name does.
 pub(crate) fn name_end(text: &[u8], at: usize) -> usize
     ensures { λ r. ⌜ r ≡ at + nameRun (drop at (now (text .entry))) ⌝ }
 {
-    let mut i = at;
-    while i < text.len() {
-        if in_name(text[i]) {
-            i += 1;
-        } else {
-            return i;
-        }
-    }
-    i
+    run_end(text, at, IN_NAME)
 }
 
 // Where the next token stands, or the end.
 pub(crate) fn skip(text: &[u8], at: usize) -> usize
     ensures { λ r. ⌜ r ≡ at + gapRun (drop at (now (text .entry))) ⌝ }
 {
-    let mut i = at;
-    while i < text.len() {
-        if in_gap(text[i]) {
-            i += 1;
-        } else {
-            return i;
-        }
-    }
-    i
+    run_end(text, at, IN_GAP)
 }
 
-fn is_foreign(b: u8) -> bool
-    ensures { λ r. ⌜ r ≡ isForeign (classOf b) ⌝ }
-{
-    match class_of(b) {
-        Class::Letter => false,
-        Class::Digit => false,
-        Class::Blank => false,
-        Class::Sign => false,
-        Class::Foreign => true,
-    }
-}
-
-// Number 2: whether some byte is foreign.
+// Number 2: whether some byte is foreign, so that the others end before the text does.
 pub(crate) fn any_foreign(text: &[u8]) -> bool
     ensures { λ r. ⌜ r ≡ anyForeign (now (text .entry)) ⌝ }
 {
-    let mut i = 0;
-    while i < text.len() {
-        if is_foreign(text[i]) {
-            return true;
-        }
-        i += 1;
-    }
-    false
-}
-
-fn is_digit(b: u8) -> bool
-    ensures { λ r. ⌜ r ≡ isDigit (classOf b) ⌝ }
-{
-    match class_of(b) {
-        Class::Letter => false,
-        Class::Digit => true,
-        Class::Blank => false,
-        Class::Sign => false,
-        Class::Foreign => false,
-    }
+    run_end(text, 0, NOT_FOREIGN) < text.len()
 }
 
 // Whether the name from `at` to `end` has over 8 bytes or starts with a digit.
@@ -111,7 +59,7 @@ fn bad_name(text: &[u8], at: usize, end: usize) -> bool
     if 8 < end - at {
         true
     } else {
-        is_digit(text[at])
+        is_one_of(text[at], DIGIT)
     }
 }
 
@@ -152,7 +100,8 @@ pub(crate) fn same_name(text: &[u8], a: usize, b: usize) -> bool
     true
 }
 
-// The word of the variable whose name stands at `at`: 3 and the number of binders between it and its own, which is the innermost of that name; 0 where it has none.
+// The word of the variable whose name stands at `at`: 3 and the number of binders between it and its own, which is the innermost of that
+// name; 0 where it has none.
 pub(crate) fn variable_word(text: &[u8], at: usize, scope: &[u32], depth: usize) -> u32
     requires { ⌜ (depth ≤ length (now scope)) × (length (now scope) ≤ 3000) ⌝ }
     ensures { λ r. ⌜ r ≡ variableWord (indexOf (nameAt (now (text .entry)) at) (namesAt (now (text .entry)) (take depth (now (scope .entry))) [])) ⌝ }

@@ -4,9 +4,10 @@ ghost use Prim.Native.Nat.{_≤_};
 ghost use lib.ListN.{length};
 ghost use Rattle.text.specs.Bytes.{sign, classOf};
 ghost use Rattle.text.specs.Parse.{startsAtom};
-ghost use Rattle.reader.specs.Answers.{ahead, AfterIs, FirstIs};
+ghost use Rattle.reader.specs.Answers.{tokensFrom, AfterIs, FirstIs};
+use crate::bytes::IN_NAME;
 use crate::bytes::byte;
-use crate::scan::in_name;
+use crate::bytes::is_one_of;
 use crate::scan::name_end;
 use crate::scan::skip;
 
@@ -49,8 +50,12 @@ pub(crate) fn name_first(text: &[u8], at: usize) -> First
 
 // Whether an atom begins there.
 pub(crate) fn starts_atom(text: &[u8], at: usize) -> bool
-    ensures { λ r. ⌜ r ≡ startsAtom (ahead (now (text .entry)) at) ⌝ }
+    ensures { λ r. ⌜ r ≡ startsAtom (tokensFrom (now (text .entry)) at) ⌝ }
 {
     let b = byte(text, skip(text, at));
-    if in_name(b) { true } else { b == b'(' }
+    if is_one_of(b, IN_NAME) {
+        true
+    } else {
+        b == b'('
+    }
 }

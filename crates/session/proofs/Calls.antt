@@ -1,51 +1,37 @@
 -- A call forward or back by its number: refused, or wound from the state that it is given.
 use mathlib.Core.Path.{_≡_}
-use mathlib.Core.Option.{some}
 use mathlib.Core.List.{List}
 use Prim.Native.Nat.{ℕ, _-_, _≤_, _<_}
 use borrow.Author.Tests.{le-leb, lt-leb}
 use Rattle.term.specs.Table.{tableIn}
 use Rattle.machine.specs.Machine.{State}
 use Rattle.calls.specs.Session.{Given}
-use Rattle.calls.specs.Stops.{moment, room}
-use Rattle.calls.specs.Calls.{callNumber, refusal, wound, forwardOf, backOf, goToOf}
+use Rattle.calls.specs.Stops.{Way, moment, room}
+use Rattle.calls.specs.Winding.{wind}
+use Rattle.calls.specs.Calls.{callNumber, Enters, refusedOutcome, wound, windOf, forwardOf, backOf, goToOf}
+use Rattle.calls.proofs.Answers.{entered, winds, wind-refused}
 use Rattle.session.specs.Types.{lent, numberMeant}
 use Rattle.session.specs.Steps.{Ready}
-use Rattle.session.specs.Ways.{runBy, callBy}
 use Rattle.session.specs.declared.Session as Declared
-use Rattle.session.specs.declared.winding.Way.{Way}
-use Rattle.session.specs.declared.winding.Way.the-variants.{Forward, Back}
 use Rattle.session.proofs.Numbers.{number-some, call-none}
-use Rattle.calls.proofs.Answers.{Enters, entered, forward-winds, back-winds, forward-refused, back-refused}
-
-refused-by : (way : Way) (g : Given) (k count : ℕ) → callNumber g ≡ some k → callBy way g count ≡ refusal k g
-refused-by Forward g k count e = forward-refused g k e count
-refused-by Back g k count e = back-refused g k e count
-
-winds-by : (way : Way) (g : Given) (s : State) (count : ℕ) → Enters g s
-    → callBy way g count ≡ wound (room (g .log) (g .tape)) (runBy way (tableIn (g .table) (g .n)) (room (g .log) (g .tape)) count (moment s (g .session .position)))
-winds-by Forward g s count h = forward-winds g s h count
-winds-by Back g s count h = back-winds g s h count
 
 module _ (w : List ℕ) (n : ℕ) (se : Declared.Session) (ls ts : List ℕ) where
   -- a number other than 0
-  pub call-refused : (way : Way) (k count : ℕ) → k ≡ numberMeant (callNumber (lent w n se ls ts)) → (k ≡ 0 → ⊥) → callBy way (lent w n se ls ts) count ≡ refusal k (lent w n se ls ts)
-  call-refused way k count e z = refused-by way (lent w n se ls ts) k count (number-some (callNumber (lent w n se ls ts)) k e z)
+  pub call-refused : (way : Way) (k count : ℕ) → k ≡ numberMeant (callNumber (lent w n se ls ts)) → (k ≡ 0 → ⊥) → windOf way (lent w n se ls ts) count ≡ refusedOutcome k (lent w n se ls ts)
+  call-refused way k count e z = wind-refused (lent w n se ls ts) k way (number-some (callNumber (lent w n se ls ts)) k e z) count
 
   -- the number 0
   module _ (e : 0 ≡ numberMeant (callNumber (lent w n se ls ts))) where
-    enters : (s : State) × Enters (lent w n se ls ts) s
-    enters = entered (lent w n se ls ts) (call-none (lent w n se ls ts) e)
+    enters-at : (s : State) × Enters (lent w n se ls ts) s
+    enters-at = entered (lent w n se ls ts) (call-none (lent w n se ls ts) e)
 
     pub call-ready : Ready w n se ls ts
-    call-ready =
-        let (s, h) = enters in
-        record { state = s; stands = record { accepted = h .accepted-table; log-short = h .short-log; tape-short = h .short-tape; holds = h .holds } }
+    call-ready = let (s, h) = enters-at in record { state = s; token = record { enters = h } }
 
     pub call-winds : (way : Way) (count : ℕ)
-        → callBy way (lent w n se ls ts) count ≡ wound (room ls ts) (runBy way (tableIn w n) (room ls ts) count (moment (call-ready .state) (se .position)))
+        → windOf way (lent w n se ls ts) count ≡ wound (room ls ts) (wind way (tableIn w n) (room ls ts) count (moment (call-ready .state) (se .position)))
     unfolding call-ready
-    call-winds way count = winds-by way (lent w n se ls ts) (enters .0) count (enters .1)
+    call-winds way count = winds (lent w n se ls ts) (enters-at .0) (enters-at .1) way count
 
 -- "go-to takes a position and is forward or back by the difference"
 module _ (g : Given) (q : ℕ) where

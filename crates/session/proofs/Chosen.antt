@@ -15,11 +15,11 @@ use Rattle.machine.specs.Machine.{Dir, down, up, State, isVariable, boundAt, go
 use Rattle.machine.proofs.Rules.{rule-1, rule-2, rule-3, rule-4, rule-5, rule-6, rule-7, rule-8}
 use Rattle.machine.proofs.Tests.{bound-at}
 use Rattle.session.specs.Types.{dirMeant}
-use Rattle.session.specs.Steps.{Stands}
+use Rattle.session.specs.Steps.{TokenAt}
 use Rattle.session.specs.Rules.{RuleIs}
 use Rattle.session.specs.declared.Dir.the-variants.{Down, Up}
 use Rattle.session.specs.declared.Session as Declared
-use Rattle.session.specs.declared.choice.Rule.the-variants.{One, Two, Three, Four, Five, Six, Seven, Eight, Unfit}
+use Rattle.session.specs.declared.choice.Rule.the-variants.{One, Two, Three, Four, Five, Six, Seven, Eight}
 use Rattle.session.proofs.TopWord.{nothing-on-top, bullet-on-top, entry-on-top}
 
 -- numbers that are no kind, and parents that have no parts
@@ -44,17 +44,17 @@ top-entry : (L : Log) (a : ℕ) → howMany L ≡ suc a → (e : Entry) × (M : 
 top-entry ε a z = absurd (omega arith)
 top-entry (e ▸ M) a z = (e, M, refl)
 
-module _ {w : List ℕ} {n : ℕ} {se : Declared.Session} {ls ts : List ℕ} {s : State} (h : Stands w n se ls ts s) where
+module _ {w : List ℕ} {n : ℕ} {se : Declared.Session} {ls ts : List ℕ} {s : State} (h : TokenAt w n se ls ts s) where
   -- a step, by the session's direction and what the lists are
   step-on : (d : Dir) → dirMeant (se .dir) ≡ d → {L : Log} → s .log ≡ L → {t : Tape} → s .tape ≡ t → step (tableIn w n) s ≡ stepBy (tableIn w n) (s .node) d L t
-  step-on d e p q = λ i. stepBy (tableIn w n) (s .node) ((sym (h .holds .dir-is) ∙ e) i) (p i) (q i)
+  step-on d e p q = λ i. stepBy (tableIn w n) (s .node) ((sym (h .enters .holds .dir-is) ∙ e) i) (p i) (q i)
 
   module _ (d : se .dir ≡ Down) {kind left : ℕ} (kind-is : kind ≡ tableIn w n .kind (se .node)) (left-is : left ≡ tableIn w n .left (se .node)) where
     kind-of : (k : ℕ) → kind ≡ k → kindAt (tableIn w n) (s .node) ≡ kindOf k
-    kind-of k e = ap kindOf (ap (tableIn w n .kind) (sym (h .holds .node-is)) ∙ sym kind-is ∙ e)
+    kind-of k e = ap kindOf (ap (tableIn w n .kind) (sym (h .enters .holds .node-is)) ∙ sym kind-is ∙ e)
 
     goes-left : tableIn w n .left (s .node) ≡ left
-    goes-left = ap (tableIn w n .left) (sym (h .holds .node-is)) ∙ sym left-is
+    goes-left = ap (tableIn w n .left) (sym (h .enters .holds .node-is)) ∙ sym left-is
 
     down-on : {t : Tape} → s .tape ≡ t → step (tableIn w n) s ≡ stepBy (tableIn w n) (s .node) down (s .log) t
     down-on q = step-on down (ap dirMeant d) refl q
@@ -70,15 +70,15 @@ module _ {w : List ℕ} {n : ℕ} {se : Declared.Session} {ls ts : List ℕ} {s 
     pub fits-3 : kind ≡ 1 → RuleIs (tableIn w n) s (Three left)
     unfolding kindOf
     fits-3 k =
-        let enough : arity (tableIn w n) (s .node) ≤ howMany (s .log) = omega (arith, h .holds .good .level-many) in
+        let enough : arity (tableIn w n) (s .node) ≤ howMany (s .log) = omega (arith, h .enters .holds .good .level-many) in
         subst (λ j. RuleIs (tableIn w n) s (Three j)) goes-left (enough, down-on refl ∙ rule-3 (tableIn w n) (s .node) (s .log) (s .tape) (kind-of 1 k) enough)
 
-    pub unfit-kind : (kind ≡ 3 → ⊥) → (kind ≡ 1 → ⊥) → (kind ≡ 2 → ⊥) → RuleIs (tableIn w n) s Unfit
+    pub unfit-kind : (kind ≡ 3 → ⊥) → (kind ≡ 1 → ⊥) → (kind ≡ 2 → ⊥) → step (tableIn w n) s ≡ none
     unfolding goDown
     unfit-kind a b c = down-none nothing (kind-of kind refl ∙ other-kind kind a b c) (s .tape) refl refl
 
     module _ (k : kind ≡ 2) where
-      pub unfit-empty : se .«tape_len» ≡ 0 → RuleIs (tableIn w n) s Unfit
+      pub unfit-empty : se .«tape_len» ≡ 0 → step (tableIn w n) s ≡ none
       unfolding goDown kindOf
       unfit-empty z = down-none abstraction (kind-of 2 k) [] (nothing-on-top h z) refl
 
@@ -95,22 +95,22 @@ module _ {w : List ℕ} {n : ℕ} {se : Declared.Session} {ls ts : List ℕ} {s 
           fits-4 here =
               let (es, t, on-top, variable-there) = entry-on-top h v some-word word not-bullet in
               let bound : boundAt (tableIn w n) (s .node) v ≡ true =
-              subst (λ i. boundAt (tableIn w n) i v ≡ true) (sym binder-is ∙ here ∙ h .holds .node-is) (bound-at (tableIn w n) v variable-there) in
+              subst (λ i. boundAt (tableIn w n) i v ≡ true) (sym binder-is ∙ here ∙ h .enters .holds .node-is) (bound-at (tableIn w n) v variable-there) in
               (es, t, on-top, down-on on-top ∙ rule-4 (tableIn w n) (s .node) (s .log) t v es (kind-of 2 k) bound)
 
-          pub unfit-bound : (binder ≡ se .node → ⊥) → RuleIs (tableIn w n) s Unfit
+          pub unfit-bound : (binder ≡ se .node → ⊥) → step (tableIn w n) s ≡ none
           unfolding goDown kindOf
           unfit-bound elsewhere =
               let (es, t, on-top, variable-there) = entry-on-top h v some-word word not-bullet in
               let unbound : boundAt (tableIn w n) (s .node) v ≡ false =
-              ap₂ (λ q b. isVariable q && b) variable-there (ne-eqb (tableIn w n .left v) (s .node) (λ e. elsewhere (binder-is ∙ e ∙ sym (h .holds .node-is)))) in
+              ap₂ (λ q b. isVariable q && b) variable-there (ne-eqb (tableIn w n .left v) (s .node) (λ e. elsewhere (binder-is ∙ e ∙ sym (h .enters .holds .node-is)))) in
               down-none abstraction (kind-of 2 k) (held (entry v es) ∷ t) on-top (rw unbound)
 
   module _ (d : se .dir ≡ Up) {p kind left right : ℕ} (p-is : p ≡ tableIn w n .parent (se .node)) (kind-is : kind ≡ tableIn w n .kind p)
       (left-is : left ≡ tableIn w n .left p) (right-is : right ≡ tableIn w n .right p) where
     place-by : (k : ℕ) → kind ≡ k → placeAt (tableIn w n) (s .node) ≡ placeUnder (tableIn w n) (s .node) p (kindOf k)
     place-by k e =
-        ap (λ q. placeUnder (tableIn w n) (s .node) q (kindAt (tableIn w n) q)) (ap (tableIn w n .parent) (sym (h .holds .node-is)) ∙ sym p-is)
+        ap (λ q. placeUnder (tableIn w n) (s .node) q (kindAt (tableIn w n) q)) (ap (tableIn w n .parent) (sym (h .enters .holds .node-is)) ∙ sym p-is)
         ∙ ap (λ q. placeUnder (tableIn w n) (s .node) p (kindOf q)) (sym kind-is ∙ e)
 
     up-on : {L : Log} → s .log ≡ L → {t : Tape} → s .tape ≡ t → step (tableIn w n) s ≡ stepBy (tableIn w n) (s .node) up L t
@@ -120,18 +120,18 @@ module _ {w : List ℕ} {n : ℕ} {se : Declared.Session} {ls ts : List ℕ} {s 
     unfolding stepBy
     up-none q e t r z = up-on refl r ∙ ap (λ q. goUp (tableIn w n) q (s .log) t) e ∙ z
 
-    unplaced : placeAt (tableIn w n) (s .node) ≡ nowhere → RuleIs (tableIn w n) s Unfit
+    unplaced : placeAt (tableIn w n) (s .node) ≡ nowhere → step (tableIn w n) s ≡ none
     unfolding goUp
     unplaced e = up-none nowhere e (s .tape) refl refl
 
-    pub unfit-parent : (kind ≡ 2 → ⊥) → (kind ≡ 3 → ⊥) → RuleIs (tableIn w n) s Unfit
+    pub unfit-parent : (kind ≡ 2 → ⊥) → (kind ≡ 3 → ⊥) → step (tableIn w n) s ≡ none
     unfit-parent a b = unplaced (place-by kind refl ∙ other-parent (tableIn w n) (s .node) p kind a b)
 
     left-here : left ≡ se .node → tableIn w n .left p ≡ s .node
-    left-here e = sym left-is ∙ e ∙ h .holds .node-is
+    left-here e = sym left-is ∙ e ∙ h .enters .holds .node-is
 
     left-away : (left ≡ se .node → ⊥) → tableIn w n .left p ≡ s .node → ⊥
-    left-away e z = e (left-is ∙ z ∙ sym (h .holds .node-is))
+    left-away e z = e (left-is ∙ z ∙ sym (h .enters .holds .node-is))
 
     pub fits-7 : kind ≡ 2 → left ≡ se .node → RuleIs (tableIn w n) s (Seven p)
     unfolding kindOf placeUnder
@@ -139,7 +139,7 @@ module _ {w : List ℕ} {n : ℕ} {se : Declared.Session} {ls ts : List ℕ} {s 
         up-on refl refl
         ∙ rule-7 (tableIn w n) (s .node) (s .log) (s .tape) (place-by 2 k ∙ ap (λ b. cond b (bodyOf p) nowhere) (eq-eqb (tableIn w n .left p) (s .node) (left-here e)))
 
-    pub unfit-body : kind ≡ 2 → (left ≡ se .node → ⊥) → RuleIs (tableIn w n) s Unfit
+    pub unfit-body : kind ≡ 2 → (left ≡ se .node → ⊥) → step (tableIn w n) s ≡ none
     unfolding kindOf placeUnder
     unfit-body k e = unplaced (place-by 2 k ∙ ap (λ b. cond b (bodyOf p) nowhere) (ne-eqb (tableIn w n .left p) (s .node) (left-away e)))
 
@@ -153,7 +153,7 @@ module _ {w : List ℕ} {n : ℕ} {se : Declared.Session} {ls ts : List ℕ} {s 
         as-function : placeAt (tableIn w n) (s .node) ≡ functionOf p
         as-function = part-by true _ (eq-eqb (tableIn w n .left p) (s .node) (left-here e)) refl
 
-        pub unfit-function : se .«tape_len» ≡ 0 → RuleIs (tableIn w n) s Unfit
+        pub unfit-function : se .«tape_len» ≡ 0 → step (tableIn w n) s ≡ none
         unfolding goUp
         unfit-function z = up-none (functionOf p) as-function [] (nothing-on-top h z) refl
 
@@ -173,9 +173,9 @@ module _ {w : List ℕ} {n : ℕ} {se : Declared.Session} {ls ts : List ℕ} {s 
         pub fits-8 : right ≡ se .node → RuleIs (tableIn w n) s (Eight left)
         unfolding kindOf
         fits-8 r =
-            let here : tableIn w n .right p ≡ s .node = sym right-is ∙ r ∙ h .holds .node-is in
-            let argument = accepted-facts w n (h .accepted) .argument p (ap kindOf (sym kind-is ∙ k)) in
-            let (x, L, on-top) = top-entry (s .log) _ (h .holds .good .level-many ∙ ap (tableIn w n .level) (sym here) ∙ argument .level-is) in
+            let here : tableIn w n .right p ≡ s .node = sym right-is ∙ r ∙ h .enters .holds .node-is in
+            let argument = accepted-facts w n (h .enters .accepted-table) .argument p (ap kindOf (sym kind-is ∙ k)) in
+            let (x, L, on-top) = top-entry (s .log) _ (h .enters .holds .good .level-many ∙ ap (tableIn w n .level) (sym here) ∙ argument .level-is) in
             subst (λ j. RuleIs (tableIn w n) s (Eight j)) (sym left-is) (
               x,
               L,
@@ -184,7 +184,7 @@ module _ {w : List ℕ} {n : ℕ} {se : Declared.Session} {ls ts : List ℕ} {s 
                   (part-by false true (ne-eqb (tableIn w n .left p) (s .node) (left-away e)) (eq-eqb (tableIn w n .right p) (s .node) here)),
             )
 
-        pub unfit-part : (right ≡ se .node → ⊥) → RuleIs (tableIn w n) s Unfit
+        pub unfit-part : (right ≡ se .node → ⊥) → step (tableIn w n) s ≡ none
         unfit-part r =
             unplaced (part-by false false (ne-eqb (tableIn w n .left p) (s .node) (left-away e))
-            (ne-eqb (tableIn w n .right p) (s .node) (λ z. r (right-is ∙ z ∙ sym (h .holds .node-is)))))
+            (ne-eqb (tableIn w n .right p) (s .node) (λ z. r (right-is ∙ z ∙ sym (h .enters .holds .node-is)))))

@@ -11,10 +11,10 @@ use Rattle.machine.specs.Entries.{entry, Log, bullet, held, Tape, logWords, tap
 use Rattle.machine.specs.Machine.{State}
 use Rattle.machine.specs.Good.{TapeIn}
 use Rattle.machine.proofs.Nodes.{is-node}
-use Rattle.session.specs.Steps.{Stands}
+use Rattle.session.specs.Steps.{TokenAt}
 use Rattle.session.specs.declared.Session as Declared
-use Rattle.session.proofs.Slices.{top-word}
-use Rattle.session.proofs.Landed.{Lies, tape-there}
+use Rattle.session.proofs.Slices.{Lies, top-word}
+use Rattle.session.proofs.Arrivals.{tape-there}
 
 word-at : (ts : List ℕ) (m v : ℕ) (ws : List ℕ) → Lies ts m (v ∷ ws) → getD ts (m - 1) 0 ≡ v
 word-at ts m v ws p =
@@ -45,15 +45,15 @@ module _ (T : Table) (F : Facts T) (ts : List ℕ) (m v : ℕ) (some-word : m �
       let same : v ≡ x = word ∙ word-at ts m x (logWords es ++ tapeWords t) p in
       (es, t, ap (λ y. held (entry y es) ∷ t) (sym same), ap (kindAt T) same ∙ g .0 .0)
 
-module _ {w : List ℕ} {n : ℕ} {se : Declared.Session} {ls ts : List ℕ} {s : State} (h : Stands w n se ls ts s) where
+module _ {w : List ℕ} {n : ℕ} {se : Declared.Session} {ls ts : List ℕ} {s : State} (h : TokenAt w n se ls ts s) where
   pub nothing-on-top : se .«tape_len» ≡ 0 → s .tape ≡ []
   nothing-on-top z = no-item ts (se .«tape_len») (s .tape) (tape-there h (s .tape) refl) z
 
   module _ (v : ℕ) (some-word : se .«tape_len» ≡ 0 → ⊥) (word : v ≡ getD ts (se .«tape_len» - 1) 0) where
     pub bullet-on-top : v ≡ 0 → (t : Tape) × (s .tape ≡ bullet ∷ t)
     bullet-on-top z =
-        bullet-first (tableIn w n) (accepted-facts w n (h .accepted)) ts (se .«tape_len») v some-word word (s .tape) (tape-there h (s .tape) refl) (h .holds .good .tape-items) z
+        bullet-first (tableIn w n) (accepted-facts w n (h .enters .accepted-table)) ts (se .«tape_len») v some-word word (s .tape) (tape-there h (s .tape) refl) (h .enters .holds .good .tape-items) z
 
     pub entry-on-top : (v ≡ 0 → ⊥) → (es : Log) × (t : Tape) × (s .tape ≡ held (entry v es) ∷ t) × (kindAt (tableIn w n) v ≡ variable)
     entry-on-top z =
-        entry-first (tableIn w n) (accepted-facts w n (h .accepted)) ts (se .«tape_len») v some-word word (s .tape) (tape-there h (s .tape) refl) (h .holds .good .tape-items) z
+        entry-first (tableIn w n) (accepted-facts w n (h .enters .accepted-table)) ts (se .«tape_len») v some-word word (s .tape) (tape-there h (s .tape) refl) (h .enters .holds .good .tape-items) z

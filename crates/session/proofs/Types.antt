@@ -4,7 +4,7 @@ use mathlib.Core.List.{List}
 use Prim.Native.Nat.{ℕ}
 use Rattle.machine.specs.Machine
 use Rattle.calls.specs.Session
-use Rattle.session.specs.Types.{dirMeant, sessionMeant, stopMeant, opened, answered}
+use Rattle.session.specs.Types.{dirMeant, sessionMeant, stopMeant, openingMeant, outcomeMeant}
 use Rattle.session.specs.declared.Dir.{Dir}
 use Rattle.session.specs.declared.Dir.the-variants.{Down, Up}
 use Rattle.session.specs.declared.Session as Declared
@@ -29,14 +29,14 @@ dir-back Up = refl
 pub dir-once : (d e : Dir) → dirMeant d ≡ dirMeant e → d ≡ e
 dir-once = from-back (λ d. dirMeant d) dirBack dir-back
 
-stopBack : Session.Outcome → Stop
-stopBack (Session.stopped Session.spent) = Spent
-stopBack (Session.stopped Session.jam) = Jam
-stopBack (Session.stopped Session.far) = Far
-stopBack (Session.stopped Session.start) = Start
-stopBack (Session.stopped Session.logFull) = LogFull
-stopBack (Session.stopped Session.tapeFull) = TapeFull
-stopBack (Session.stopped (Session.answer i)) = Answer i
+stopBack : Session.Stop → Stop
+stopBack Session.spent = Spent
+stopBack Session.jam = Jam
+stopBack Session.far = Far
+stopBack Session.start = Start
+stopBack Session.logFull = LogFull
+stopBack Session.tapeFull = TapeFull
+stopBack (Session.answer i) = Answer i
 stopBack (Session.refused k) = Refused k
 
 stop-back : (x : Stop) → stopBack (stopMeant x) ≡ x
@@ -58,13 +58,13 @@ session-once s u e =
     let d = dir-once (s .dir) (u .dir) (ap (λ x. x .dir) e) in
     λ i. record { node = e i .node; dir = d i; position = e i .position; «log_len» = e i .logLength; «tape_len» = e i .tapeLength }
 
-pub opened-once : (o u : Opening) (ls ls′ ts ts′ : List ℕ) → opened o ls ts ≡ opened u ls′ ts′ → (o ≡ u) × (ls ≡ ls′) × (ts ≡ ts′)
+pub opened-once : (o u : Opening) (ls ls′ ts ts′ : List ℕ) → openingMeant o ls ts ≡ openingMeant u ls′ ts′ → (o ≡ u) × (ls ≡ ls′) × (ts ≡ ts′)
 opened-once o u ls ls′ ts ts′ e =
     let s = session-once (o .session) (u .session) (ap (λ x. x .session) e) in
     (λ i. record { session = s i; refusal = e i .refusal }, ap (λ x. x .log) e, ap (λ x. x .tape) e)
 
-pub answered-once : (o u : Outcome) (ls ls′ ts ts′ : List ℕ) → answered o ls ts ≡ answered u ls′ ts′ → (o ≡ u) × (ls ≡ ls′) × (ts ≡ ts′)
-answered-once o u ls ls′ ts ts′ e =
+pub outcome-once : (o u : Outcome) (ls ls′ ts ts′ : List ℕ) → outcomeMeant o ls ts ≡ outcomeMeant u ls′ ts′ → (o ≡ u) × (ls ≡ ls′) × (ts ≡ ts′)
+outcome-once o u ls ls′ ts ts′ e =
     let s = session-once (o .session) (u .session) (ap (λ x. x .session) e) in
-    let x = stop-once (o .stop) (u .stop) (ap (λ y. y .outcome) e) in
+    let x = stop-once (o .stop) (u .stop) (ap (λ y. y .stop) e) in
     (λ i. record { session = s i; steps = e i .steps; stop = x i; peak = e i .peak }, ap (λ y. y .log) e, ap (λ y. y .tape) e)

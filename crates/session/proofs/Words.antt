@@ -14,7 +14,7 @@ use Rattle.term.specs.Choice.{_>>=_, ifSome}
 use Rattle.term.specs.Table.{Table, arity, kindOf}
 use Rattle.machine.specs.Machine.{isVariable}
 use Rattle.machine.specs.Slice.{makesEntry, allZero}
-use Rattle.session.specs.Counting.{countEntry, haveLog, countItem, haveTape}
+use Rattle.session.specs.Counting.{countEntry, isBullet, countWord, haveWords}
 use Rattle.session.specs.Types.{numberMeant}
 use Rattle.session.proofs.Numbers.{number-some}
 
@@ -81,42 +81,27 @@ module _ (T : Table) where
   unfolding countEntry
   count-none v have = count-by (makesEntry T v have) (arity T v) have .1
 
-  module _ (ws : List ℕ) (i have : ℕ) where
-    pub log-end : length ws ≤ i → haveLog T (drop i ws) have ≡ some have
-    unfolding haveLog
-    log-end h = rw (drop-of-length-le ws h)
-
-    pub tape-end : length ws ≤ i → haveTape T (drop i ws) have ≡ some have
-    unfolding haveTape
-    tape-end h = rw (drop-of-length-le ws h)
+  module _ (bullets : Bool) (ws : List ℕ) (i have : ℕ) where
+    pub words-end : length ws ≤ i → haveWords bullets T (drop i ws) have ≡ some have
+    unfolding haveWords
+    words-end h = rw (drop-of-length-le ws h)
 
     module _ (h : i < length ws) where
-      log-next : haveLog T (drop i ws) have ≡ (countEntry T (getD ws i 0) have >>= λ k. haveLog T (drop (i + 1) ws) k)
-      unfolding haveLog
-      log-next = rw (next-word ws i h)
+      words-next : haveWords bullets T (drop i ws) have ≡ (countWord bullets T (getD ws i 0) have >>= λ k. haveWords bullets T (drop (i + 1) ws) k)
+      unfolding haveWords
+      words-next = rw (next-word ws i h)
 
-      pub log-stop : 0 ≡ numberMeant (countEntry T (getD ws i 0) have) → haveLog T (drop i ws) have ≡ none
-      log-stop e = rw (log-next, count-none (getD ws i 0) have (sym e))
+      pub words-bullet : isBullet bullets (getD ws i 0) ≡ true → haveWords bullets T (drop i ws) have ≡ haveWords bullets T (drop (i + 1) ws) 0
+      unfolding countWord
+      words-bullet z = words-next ∙ ap (λ b. cond b (some 0) (countEntry T (getD ws i 0) have) >>= λ k. haveWords bullets T (drop (i + 1) ws) k) z
 
-      pub log-more : (k : ℕ) → k ≡ numberMeant (countEntry T (getD ws i 0) have) → (k ≡ 0 → ⊥) → haveLog T (drop i ws) have ≡ haveLog T (drop (i + 1) ws) k
-      log-more k e z = rw (log-next, number-some (countEntry T (getD ws i 0) have) k e z)
+      module _ (z : isBullet bullets (getD ws i 0) ≡ false) where
+        words-entry : haveWords bullets T (drop i ws) have ≡ (countEntry T (getD ws i 0) have >>= λ k. haveWords bullets T (drop (i + 1) ws) k)
+        unfolding countWord
+        words-entry = words-next ∙ ap (λ b. cond b (some 0) (countEntry T (getD ws i 0) have) >>= λ k. haveWords bullets T (drop (i + 1) ws) k) z
 
-      tape-next : haveTape T (drop i ws) have ≡ (countItem T (getD ws i 0) have >>= λ k. haveTape T (drop (i + 1) ws) k)
-      unfolding haveTape
-      tape-next = rw (next-word ws i h)
+        pub words-stop : 0 ≡ numberMeant (countEntry T (getD ws i 0) have) → haveWords bullets T (drop i ws) have ≡ none
+        words-stop e = rw (words-entry, count-none (getD ws i 0) have (sym e))
 
-      pub tape-bullet : getD ws i 0 ≡ 0 → haveTape T (drop i ws) have ≡ haveTape T (drop (i + 1) ws) 0
-      unfolding countItem
-      tape-bullet z = rw (tape-next, z)
-
-      item-entry : (v : ℕ) → (v ≡ 0 → ⊥) → countItem T v have ≡ countEntry T v have
-      unfolding countItem
-      item-entry zero z = absurd (z refl)
-      item-entry (suc v) z = refl
-
-      module _ (z : getD ws i 0 ≡ 0 → ⊥) where
-        pub tape-stop : 0 ≡ numberMeant (countEntry T (getD ws i 0) have) → haveTape T (drop i ws) have ≡ none
-        tape-stop e = rw (tape-next, item-entry (getD ws i 0) z, count-none (getD ws i 0) have (sym e))
-
-        pub tape-more : (k : ℕ) → k ≡ numberMeant (countEntry T (getD ws i 0) have) → (k ≡ 0 → ⊥) → haveTape T (drop i ws) have ≡ haveTape T (drop (i + 1) ws) k
-        tape-more k e y = rw (tape-next, item-entry (getD ws i 0) z, number-some (countEntry T (getD ws i 0) have) k e y)
+        pub words-more : (k : ℕ) → k ≡ numberMeant (countEntry T (getD ws i 0) have) → (k ≡ 0 → ⊥) → haveWords bullets T (drop i ws) have ≡ haveWords bullets T (drop (i + 1) ws) k
+        words-more k e y = rw (words-entry, number-some (countEntry T (getD ws i 0) have) k e y)

@@ -1,6 +1,6 @@
 pub mod Types
 pub mod Counting
+pub mod Mover
 pub mod Steps
 pub mod Rules
-pub mod Anew
-pub mod Ways
+pub mod Passes

@@ -1,18 +1,26 @@
 -- What the choice of a rule and the rules' functions promise: how the step goes from the state that the session and its slices hold.
 use mathlib.Core.Path.{_≡_}
+use mathlib.Core.Bool.{Bool}
 use mathlib.Core.Option.{none, some}
 use mathlib.Core.List.{List, _∷_}
 use Prim.Native.Nat.{ℕ, _≤_}
 use Rattle.term.specs.Table.{Table, tableIn, arity}
-use Rattle.machine.specs.Entries.{Entry, entry, Log, _▸_, howMany, top, rest, _onto_, bullet, held, Tape}
+use Rattle.machine.specs.Entries.{Entry, entry, Log, _▸_, howMany, topmost, rest, _onto_, bullet, held, Tape}
 use Rattle.machine.specs.Machine.{down, up, State, state, step}
-use Rattle.session.specs.Steps.{Stands, Ready, StepIs}
+use Rattle.calls.specs.Stops.{isAnswer}
+use Rattle.session.specs.Steps.{TokenAt, Ready, StepIs}
 use Rattle.session.specs.Types.{dirMeant}
 use Rattle.session.specs.declared.Dir as DeclaredDir
 use Rattle.session.specs.declared.Session as Declared
 use Rattle.session.specs.declared.choice.Rule.{Rule}
-use Rattle.session.specs.declared.choice.Rule.the-variants.{One, Two, Three, Four, Five, Six, Seven, Eight, Unfit}
+use Rattle.session.specs.declared.choice.Rule.the-variants.{One, Two, Three, Four, Five, Six, Seven, Eight}
+use Rattle.session.specs.declared.choice.Fit.{Fit}
+use Rattle.session.specs.declared.choice.Fit.the-variants.{By, Unfit}
+use Rattle.session.specs.declared.Dir.the-variants.{Down}
+use Rattle.session.specs.declared.rules.Ends.{Ends}
+use Rattle.session.specs.declared.rules.Ends.the-variants.{At, NoRoom}
 use Rattle.session.specs.declared.rules.Stepped.{Stepped}
+use Rattle.session.specs.declared.rules.Stepped.the-variants.{Made, LogFull, TapeFull}
 
 -- By the rule of document 01 that fits and the node j that it leads to: what the rule finds on top of log or tape, and the state after it.
 abbrev pub RuleIs : Table → State → Rule → Type 0
@@ -20,34 +28,51 @@ RuleIs T s (One j) = step T s ≡ some (state j down (s .log) (bullet ∷ s .tap
 RuleIs T s (Two j) = (t : Tape) × (s .tape ≡ bullet ∷ t) × (step T s ≡ some (state j down (s .log) t))
 RuleIs T s (Three j) =
     (arity T (s .node) ≤ howMany (s .log))
-    × (step T s ≡ some (state j up (rest (arity T (s .node)) (s .log)) (held (entry (s .node) (top (arity T (s .node)) (s .log))) ∷ s .tape)))
+    × (step T s ≡ some (state j up (rest (arity T (s .node)) (s .log)) (held (entry (s .node) (topmost (arity T (s .node)) (s .log))) ∷ s .tape)))
 RuleIs T s (Four j) = (es : Log) × (t : Tape) × (s .tape ≡ held (entry j es) ∷ t) × (step T s ≡ some (state j up (es onto s .log) t))
 RuleIs T s (Five j) = (t : Tape) × (s .tape ≡ bullet ∷ t) × (step T s ≡ some (state j up (s .log) t))
 RuleIs T s (Six j) = (e : Entry) × (t : Tape) × (s .tape ≡ held e ∷ t) × (step T s ≡ some (state j down (e ▸ s .log) t))
 RuleIs T s (Seven j) = step T s ≡ some (state j up (s .log) (bullet ∷ s .tape))
 RuleIs T s (Eight j) = (e : Entry) × (L : Log) × (s .log ≡ e ▸ L) × (step T s ≡ some (state j down L (held e ∷ s .tape)))
-RuleIs T s Unfit = step T s ≡ none
+
+-- a rule that fits, or none
+abbrev pub FitIs : Table → State → Fit → Type 0
+FitIs T s (By r) = RuleIs T s r
+FitIs T s Unfit = step T s ≡ none
 
 -- what the choice of a rule promises of every state held
-abbrev pub Choice : List ℕ → ℕ → Declared.Session → List ℕ → Rule → Type 0
-Choice w n se ts r = (ls : List ℕ) (s : State) → Stands w n se ls ts s → RuleIs (tableIn w n) s r
+abbrev pub Chooses : List ℕ → ℕ → Declared.Session → List ℕ → Fit → Type 0
+Chooses w n se ts f = (ls : List ℕ) (s : State) → TokenAt w n se ls ts s → FitIs (tableIn w n) s f
+
+-- what the test of the answer promises
+abbrev pub TellsAnswer : List ℕ → ℕ → Declared.Session → Bool → Type 0
+TellsAnswer w n se b = (ls ts : List ℕ) (s : State) → TokenAt w n se ls ts s → b ≡ isAnswer (tableIn w n) s
 
 -- what the function of one rule requires
 pub record Fitting (w : List ℕ) (n : ℕ) (se : Declared.Session) (ls ts : List ℕ) (r : Rule) : Type 0 where
   pub ready : Ready w n se ls ts
-  pub fits : (s : State) → Stands w n se ls ts s → RuleIs (tableIn w n) s r
+  pub fits : (s : State) → TokenAt w n se ls ts s → RuleIs (tableIn w n) s r
 
 -- and what it promises of every state held
 abbrev pub Steps : List ℕ → ℕ → Declared.Session → List ℕ → List ℕ → Stepped → List ℕ → List ℕ → Type 0
-Steps w n se ls ts r ls′ ts′ = (s : State) → Stands w n se ls ts s → StepIs w n se ls ts s r ls′ ts′
+Steps w n se ls ts r ls′ ts′ = (s : State) → TokenAt w n se ls ts s → StepIs w n se ls ts s r ls′ ts′
 
 -- The same of the rules that only count a bullet's word, which lead to node j in direction d: nothing is written.
 abbrev pub BulletComes : Declared.Session → ℕ → DeclaredDir.Dir → List ℕ → Stepped → Type 0
 BulletComes se j d ts r =
-    (w : List ℕ) (n : ℕ) (ls : List ℕ) (s : State) → Stands w n se ls ts s
+    (w : List ℕ) (n : ℕ) (ls : List ℕ) (s : State) → TokenAt w n se ls ts s
     → step (tableIn w n) s ≡ some (state j (dirMeant d) (s .log) (bullet ∷ s .tape)) → StepIs w n se ls ts s r ls ts
 
 abbrev pub BulletGoes : Declared.Session → ℕ → DeclaredDir.Dir → Stepped → Type 0
 BulletGoes se j d r =
-    (w : List ℕ) (n : ℕ) (ls ts : List ℕ) (s : State) (t : Tape) → Stands w n se ls ts s → s .tape ≡ bullet ∷ t
+    (w : List ℕ) (n : ℕ) (ls ts : List ℕ) (s : State) (t : Tape) → TokenAt w n se ls ts s → s .tape ≡ bullet ∷ t
     → step (tableIn w n) s ≡ some (state j (dirMeant d) (s .log) t) → StepIs w n se ls ts s r ls ts
+
+-- An entry moved down to node j, by where the two lists end then: from the tape onto the log, and from the log onto the tape.
+abbrev pub ontoLog : ℕ → Ends → Stepped
+ontoLog j (At t l) = Made (record { node = j; dir = Down; «log_len» = l; «tape_len» = t })
+ontoLog j NoRoom = LogFull
+
+abbrev pub ontoTape : ℕ → Ends → Stepped
+ontoTape j (At l t) = Made (record { node = j; dir = Down; «log_len» = l; «tape_len» = t })
+ontoTape j NoRoom = TapeFull

@@ -4,6 +4,7 @@ use mathlib.Core.List.{List}
 use Prim.Native.Nat.{ℕ}
 use Rattle.machine.specs.Machine
 use Rattle.calls.specs.Session
+use Rattle.calls.specs.Stops
 use Rattle.session.specs.declared.Dir.{Dir}
 use Rattle.session.specs.declared.Dir.the-variants.{Down, Up}
 use Rattle.session.specs.declared.Session as Declared
@@ -11,10 +12,16 @@ use Rattle.session.specs.declared.Stop.{Stop}
 use Rattle.session.specs.declared.Stop.the-variants.{Spent, Answer, Jam, Far, Start, LogFull, TapeFull, Refused}
 use Rattle.session.specs.declared.Opening.{Opening}
 use Rattle.session.specs.declared.Outcome.{Outcome}
+use Rattle.session.specs.declared.winding.Way.{Way}
+use Rattle.session.specs.declared.winding.Way.the-variants.{Forward, Back}
 
 abbrev pub dirMeant : Dir → Machine.Dir
 dirMeant Down = Machine.down
 dirMeant Up = Machine.up
+
+abbrev pub wayMeant : Way → Stops.Way
+wayMeant Forward = Stops.forward
+wayMeant Back = Stops.back
 
 abbrev pub sessionMeant : Declared.Session → Session.Session
 sessionMeant s = record {
@@ -25,26 +32,25 @@ sessionMeant s = record {
   tapeLength = s .«tape_len»;
 }
 
--- A refusal is kept apart from a stop.
-abbrev pub stopMeant : Stop → Session.Outcome
-stopMeant Spent = Session.stopped Session.spent
-stopMeant (Answer i) = Session.stopped (Session.answer i)
-stopMeant Jam = Session.stopped Session.jam
-stopMeant Far = Session.stopped Session.far
-stopMeant Start = Session.stopped Session.start
-stopMeant LogFull = Session.stopped Session.logFull
-stopMeant TapeFull = Session.stopped Session.tapeFull
+abbrev pub stopMeant : Stop → Session.Stop
+stopMeant Spent = Session.spent
+stopMeant (Answer i) = Session.answer i
+stopMeant Jam = Session.jam
+stopMeant Far = Session.far
+stopMeant Start = Session.start
+stopMeant LogFull = Session.logFull
+stopMeant TapeFull = Session.tapeFull
 stopMeant (Refused k) = Session.refused k
 
 -- An answer together with both slices at exit.
-abbrev pub opened : Opening → List ℕ → List ℕ → Session.Opening
-opened o ls ts = record { session = sessionMeant (o .session); refusal = o .refusal; log = ls; tape = ts }
+abbrev pub openingMeant : Opening → List ℕ → List ℕ → Session.Opening
+openingMeant o ls ts = record { session = sessionMeant (o .session); refusal = o .refusal; log = ls; tape = ts }
 
-abbrev pub answered : Outcome → List ℕ → List ℕ → Session.Answer
-answered o ls ts = record {
+abbrev pub outcomeMeant : Outcome → List ℕ → List ℕ → Session.Outcome
+outcomeMeant o ls ts = record {
   session = sessionMeant (o .session);
   steps = o .steps;
-  outcome = stopMeant (o .stop);
+  stop = stopMeant (o .stop);
   peak = o .peak;
   log = ls;
   tape = ts;

@@ -7,8 +7,8 @@ ghost use Rattle.term.specs.Choice.{isNone, ifSome};
 ghost use Rattle.term.specs.Table.{tableIn};
 ghost use Rattle.machine.specs.Slice.{allZero};
 ghost use Rattle.calls.specs.Held.{stateIn};
-ghost use Rattle.session.specs.Counting.{countEntry, haveLog, haveTape};
-ghost use Rattle.calls.specs.Calls.{openNumber, callNumber};
+ghost use Rattle.session.specs.Counting.{countEntry, isBullet, haveWords, haveLog, haveTape, CountIs};
+ghost use Rattle.calls.specs.Calls.{lentNumber, callNumber};
 ghost use Rattle.session.specs.Types.{sessionMeant, lent, numberMeant};
 use crate::Session;
 use crate::extent::arity;
@@ -39,40 +39,59 @@ fn entries_with(table: &[u32], n: u32, v: u32, have: usize) -> usize
     if have < a { 0 } else { have - a + 1 }
 }
 
-// Whether the words, read from the low end, are those of so many entries.
-fn is_log(table: &[u32], n: u32, words: &[u32], level: u32) -> bool
-    ensures { λ r. ⌜ r ≡ ifSome (haveLog (tableIn (now (table .entry)) n) (now (words .entry)) 0) (λ k. eqb k level) (λ _. false) ⌝ }
-{
-    let mut have: usize = 0;
-    let mut i: usize = 0;
-    while i < words.len() {
-        have = entries_with(table, n, words[i], have);
-        if have == 0 {
-            return false;
-        }
-        i += 1;
-    }
-    have == level as usize
+// How many entries words make, or that they make none.
+pub(crate) enum Count {
+    Entries(usize),
+    Bad,
 }
 
-// Whether the words, read from the low end, are those of bullets and entries.
-fn is_tape(table: &[u32], n: u32, words: &[u32]) -> bool
-    ensures { λ r. ⌜ r ≡ not (isNone (haveTape (tableIn (now (table .entry)) n) (now (words .entry)) 0)) ⌝ }
+// Whether a word is a bullet, where bullets may stand.
+fn is_bullet(word: u32, bullets: bool) -> bool
+    ensures { λ r. ⌜ r ≡ isBullet bullets word ⌝ }
+{
+    if bullets { word == 0 } else { false }
+}
+
+// The entries that the words, read from the low end, leave on top, down to a bullet.
+fn entries_in(table: &[u32], n: u32, words: &[u32], bullets: bool) -> Count
+    ensures { λ r. ⌜ CountIs (haveWords bullets (tableIn (now (table .entry)) n) (now (words .entry)) 0) r ⌝ }
 {
     let mut have: usize = 0;
     let mut i: usize = 0;
     while i < words.len() {
-        if words[i] == 0 {
+        if is_bullet(words[i], bullets) {
             have = 0;
         } else {
             have = entries_with(table, n, words[i], have);
             if have == 0 {
-                return false;
+                return Count::Bad;
             }
         }
         i += 1;
     }
-    true
+    Count::Entries(have)
+}
+
+// Whether the words are those of so many entries.
+fn is_log(table: &[u32], n: u32, words: &[u32], level: u32) -> bool
+    ensures { λ r. ⌜ r ≡ ifSome (haveLog (tableIn (now (table .entry)) n) (now (words .entry)) 0) (λ k. eqb k level) (λ _. false) ⌝ }
+{
+    let counted = entries_in(table, n, words, false);
+    match counted {
+        Count::Entries(k) => k == level as usize,
+        Count::Bad => false,
+    }
+}
+
+// Whether the words are those of bullets and entries.
+fn is_tape(table: &[u32], n: u32, words: &[u32]) -> bool
+    ensures { λ r. ⌜ r ≡ not (isNone (haveTape (tableIn (now (table .entry)) n) (now (words .entry)) 0)) ⌝ }
+{
+    let counted = entries_in(table, n, words, true);
+    match counted {
+        Count::Entries(_) => true,
+        Count::Bad => false,
+    }
 }
 
 // Whether the session and its slices hold a state.
@@ -107,9 +126,9 @@ fn holds_state(table: &[u32], n: u32, session: Session, log: &[u32], tape: &[u32
     is_tape(table, n, &tape[..t])
 }
 
-// The number that refuses open, or 0.
-pub(crate) fn open_number(table: &[u32], n: u32, log: &[u32], tape: &[u32]) -> u32
-    ensures { λ r. ⌜ r ≡ numberMeant (openNumber (now (table .entry)) n (now (log .entry)) (now (tape .entry))) ⌝ }
+// Numbers 7 and 8, which are put to what every call is lent, or 0.
+pub(crate) fn lent_number(table: &[u32], n: u32, log: &[u32], tape: &[u32]) -> u32
+    ensures { λ r. ⌜ r ≡ numberMeant (lentNumber (now (table .entry)) n (now (log .entry)) (now (tape .entry))) ⌝ }
 {
     if !term::accepts(table, n) {
         return 7;
@@ -127,7 +146,7 @@ pub(crate) fn open_number(table: &[u32], n: u32, log: &[u32], tape: &[u32]) -> u
 pub(crate) fn call_number(table: &[u32], n: u32, session: Session, log: &[u32], tape: &[u32]) -> u32
     ensures { λ r. ⌜ r ≡ numberMeant (callNumber (lent (now (table .entry)) n session (now (log .entry)) (now (tape .entry)))) ⌝ }
 {
-    let k = open_number(table, n, log, tape);
+    let k = lent_number(table, n, log, tape);
     if k != 0 {
         return k;
     }

@@ -2,7 +2,7 @@
 ghost use mathlib.Core.Path.{_≡_};
 ghost use Prim.Native.Nat.{_≤_};
 ghost use lib.ListN.{length};
-ghost use Rattle.session.specs.Rules.{Choice};
+ghost use Rattle.session.specs.Rules.{Chooses};
 use crate::Dir;
 use crate::Session;
 
@@ -16,46 +16,51 @@ pub(crate) enum Rule {
     Six(u32),
     Seven(u32),
     Eight(u32),
+}
+
+// The rule that fits, if one does.
+pub(crate) enum Fit {
+    By(Rule),
     Unfit,
 }
 
 // The rule that fits down at a node: by the node's kind, and at an abstraction by the word on top of the tape.
-fn chosen_down(table: &[u32], n: u32, session: Session, tape: &[u32]) -> Rule
+fn chosen_down(table: &[u32], n: u32, session: Session, tape: &[u32]) -> Fit
     requires { ⌜ (session .dir ≡ Dir.Down) × (session .«tape_len» ≤ length (now tape)) ⌝ }
-    ensures { λ r. ⌜ Choice (now (table .entry)) n session (now (tape .entry)) r ⌝ }
+    ensures { λ r. ⌜ Chooses (now (table .entry)) n session (now (tape .entry)) r ⌝ }
 {
     let node = session.node;
     let m = session.tape_len as usize;
     let kind = term::kind(table, n, node);
     let left = term::left(table, n, node);
     if kind == 3 {
-        return Rule::One(left);
+        return Fit::By(Rule::One(left));
     }
     if kind == 1 {
-        return Rule::Three(left);
+        return Fit::By(Rule::Three(left));
     }
     if kind != 2 {
-        return Rule::Unfit;
+        return Fit::Unfit;
     }
     if m == 0 {
-        return Rule::Unfit;
+        return Fit::Unfit;
     }
     let top = tape[m - 1];
     if top == 0 {
-        return Rule::Two(left);
+        return Fit::By(Rule::Two(left));
     }
     let binder = term::left(table, n, top);
     if binder == node {
-        Rule::Four(top)
+        Fit::By(Rule::Four(top))
     } else {
-        Rule::Unfit
+        Fit::Unfit
     }
 }
 
 // The rule that fits up at a node: by its place under its parent, and at a function by the word on top of the tape.
-fn chosen_up(table: &[u32], n: u32, session: Session, tape: &[u32]) -> Rule
+fn chosen_up(table: &[u32], n: u32, session: Session, tape: &[u32]) -> Fit
     requires { ⌜ (session .dir ≡ Dir.Up) × (session .«tape_len» ≤ length (now tape)) ⌝ }
-    ensures { λ r. ⌜ Choice (now (table .entry)) n session (now (tape .entry)) r ⌝ }
+    ensures { λ r. ⌜ Chooses (now (table .entry)) n session (now (tape .entry)) r ⌝ }
 {
     let node = session.node;
     let m = session.tape_len as usize;
@@ -65,34 +70,34 @@ fn chosen_up(table: &[u32], n: u32, session: Session, tape: &[u32]) -> Rule
     let right = term::right(table, n, p);
     if kind == 2 {
         if left == node {
-            return Rule::Seven(p);
+            return Fit::By(Rule::Seven(p));
         }
-        return Rule::Unfit;
+        return Fit::Unfit;
     }
     if kind != 3 {
-        return Rule::Unfit;
+        return Fit::Unfit;
     }
     if left != node {
         if right == node {
-            return Rule::Eight(left);
+            return Fit::By(Rule::Eight(left));
         }
-        return Rule::Unfit;
+        return Fit::Unfit;
     }
     if m == 0 {
-        return Rule::Unfit;
+        return Fit::Unfit;
     }
     let top = tape[m - 1];
     if top == 0 {
-        Rule::Five(p)
+        Fit::By(Rule::Five(p))
     } else {
-        Rule::Six(right)
+        Fit::By(Rule::Six(right))
     }
 }
 
 // The rule that fits.
-pub(crate) fn chosen(table: &[u32], n: u32, session: Session, tape: &[u32]) -> Rule
+pub(crate) fn chosen(table: &[u32], n: u32, session: Session, tape: &[u32]) -> Fit
     requires { ⌜ session .«tape_len» ≤ length (now tape) ⌝ }
-    ensures { λ r. ⌜ Choice (now (table .entry)) n session (now (tape .entry)) r ⌝ }
+    ensures { λ r. ⌜ Chooses (now (table .entry)) n session (now (tape .entry)) r ⌝ }
 {
     let dir = session.dir;
     match dir {

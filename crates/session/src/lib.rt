@@ -1,11 +1,9 @@
 // Sessions on a term: open, forward, back and go-to (document 01, "A session and its calls").
 ghost use mathlib.Core.Path.{_≡_};
-ghost use mathlib.Core.List.{List};
-ghost use Prim.Native.Nat.{ℕ};
 ghost use lib.ListN.{length, replicate};
-ghost use Rattle.calls.specs.Calls.{openOf, refusal, forwardOf, backOf, goToOf};
-ghost use Rattle.session.specs.Types.{opened, answered, lent};
-ghost use Rattle.session.specs.Ways.{callBy};
+ghost use Rattle.calls.specs.Calls.{openOf, windOf, forwardOf, backOf, goToOf};
+ghost use Rattle.session.specs.Types.{openingMeant, outcomeMeant, wayMeant, lent};
+ghost use Rattle.session.specs.Passes.{Refuses};
 
 mod check;
 mod choice;
@@ -72,9 +70,10 @@ fn clear(words: &mut [u32])
 
 // Open: the start state at position 0, and both slices zeroed; or refused, with no word written.
 pub fn open(table: &[u32], n: u32, log: &mut [u32], tape: &mut [u32]) -> Opening
-    ensures { λ r. ⌜ opened r (now (log .exit)) (now (tape .exit)) ≡ openOf (now (table .entry)) n (now (log .entry)) (now (tape .entry)) ⌝ }
+    ensures { λ r. ⌜ openingMeant r (now (log .exit)) (now (tape .exit))
+        ≡ openOf (now (table .entry)) n (now (log .entry)) (now (tape .entry)) ⌝ }
 {
-    let refusal = check::open_number(table, n, &log[..], &tape[..]);
+    let refusal = check::lent_number(table, n, &log[..], &tape[..]);
     if refusal != 0 {
         return Opening {
             session: Session {
@@ -102,8 +101,8 @@ pub fn open(table: &[u32], n: u32, log: &mut [u32], tape: &mut [u32]) -> Opening
 }
 
 // Number k instead of a stop: the session given, and nothing done.
-fn refused(session: Session, k: u32) -> Outcome
-    ensures { λ r. ⌜ ((w : List ℕ) (n : ℕ) (ls ts : List ℕ) → answered r ls ts ≡ refusal k (lent w n session ls ts)) ⌝ }
+fn refused_outcome(session: Session, k: u32) -> Outcome
+    ensures { λ r. ⌜ Refuses session k r ⌝ }
 {
     Outcome {
         session: session,
@@ -123,11 +122,12 @@ fn call(
     way: Way,
     count: u32,
 ) -> Outcome
-    ensures { λ r. ⌜ answered r (now (log .exit)) (now (tape .exit)) ≡ callBy way (lent (now (table .entry)) n session (now (log .entry)) (now (tape .entry))) count ⌝ }
+    ensures { λ r. ⌜ outcomeMeant r (now (log .exit)) (now (tape .exit))
+        ≡ windOf (wayMeant way) (lent (now (table .entry)) n session (now (log .entry)) (now (tape .entry))) count ⌝ }
 {
     let k = call_number(table, n, session, &log[..], &tape[..]);
     if k != 0 {
-        return refused(session, k);
+        return refused_outcome(session, k);
     }
     wind(table, n, session, log, tape, way, count)
 }
@@ -141,7 +141,8 @@ pub fn forward(
     tape: &mut [u32],
     count: u32,
 ) -> Outcome
-    ensures { λ r. ⌜ answered r (now (log .exit)) (now (tape .exit)) ≡ forwardOf (lent (now (table .entry)) n session (now (log .entry)) (now (tape .entry))) count ⌝ }
+    ensures { λ r. ⌜ outcomeMeant r (now (log .exit)) (now (tape .exit))
+        ≡ forwardOf (lent (now (table .entry)) n session (now (log .entry)) (now (tape .entry))) count ⌝ }
 {
     call(table, n, session, log, tape, Way::Forward, count)
 }
@@ -155,7 +156,8 @@ pub fn back(
     tape: &mut [u32],
     count: u32,
 ) -> Outcome
-    ensures { λ r. ⌜ answered r (now (log .exit)) (now (tape .exit)) ≡ backOf (lent (now (table .entry)) n session (now (log .entry)) (now (tape .entry))) count ⌝ }
+    ensures { λ r. ⌜ outcomeMeant r (now (log .exit)) (now (tape .exit))
+        ≡ backOf (lent (now (table .entry)) n session (now (log .entry)) (now (tape .entry))) count ⌝ }
 {
     call(table, n, session, log, tape, Way::Back, count)
 }
@@ -169,7 +171,8 @@ pub fn go_to(
     tape: &mut [u32],
     position: u32,
 ) -> Outcome
-    ensures { λ r. ⌜ answered r (now (log .exit)) (now (tape .exit)) ≡ goToOf (lent (now (table .entry)) n session (now (log .entry)) (now (tape .entry))) position ⌝ }
+    ensures { λ r. ⌜ outcomeMeant r (now (log .exit)) (now (tape .exit))
+        ≡ goToOf (lent (now (table .entry)) n session (now (log .entry)) (now (tape .entry))) position ⌝ }
 {
     let here = session.position;
     if here <= position {

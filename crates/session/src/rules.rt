@@ -1,35 +1,43 @@
 // One step of the plain machine on a session and its slices: the eight rules.
 ghost use mathlib.Core.Path.{_≡_};
-ghost use mathlib.Core.Bool.{not};
-ghost use mathlib.Core.List.{List};
-ghost use Prim.Native.Nat.{ℕ, _≤_};
+ghost use Prim.Native.Nat.{_≤_};
 ghost use lib.ListN.{length};
-ghost use Rattle.term.specs.Choice.{isNone};
-ghost use Rattle.term.specs.Table.{tableIn};
-ghost use Rattle.machine.specs.Machine.{State, step as stepOf};
-ghost use Rattle.calls.specs.Stops.{isAnswer};
 ghost use Rattle.calls.specs.Calls.{longest};
-ghost use Rattle.session.specs.Steps.{Stands, Ready, StepIs};
-ghost use Rattle.session.specs.Rules.{Fitting, Steps, BulletComes, BulletGoes};
+ghost use Rattle.term.specs.Table.{tableIn};
+ghost use Rattle.session.specs.Mover.{ListIn, TopMoved};
+ghost use Rattle.session.specs.Rules.{TellsAnswer, Fitting, Steps, BulletComes, BulletGoes, ontoLog, ontoTape};
 use crate::Dir;
 use crate::Session;
 use crate::choice::Rule;
-use crate::choice::chosen;
 use crate::extent::arity;
-use crate::extent::span;
-use crate::mover::move_words;
+use crate::mover::Moving;
+use crate::mover::make_entry;
+use crate::mover::move_entries;
 
-// What became of a step: the session after it, or why it was not made.
+// Where a step leads: its node and direction, and the lengths in words of log and tape there.
+pub(crate) struct Arrival {
+    pub(crate) node: u32,
+    pub(crate) dir: Dir,
+    pub(crate) log_len: u32,
+    pub(crate) tape_len: u32,
+}
+
+// What became of a step: where it leads, or which slice has no room for it.
 pub(crate) enum Stepped {
-    Moved(Session),
-    NoRule,
+    Made(Arrival),
     LogFull,
     TapeFull,
 }
 
+// The lengths in words after an entry moved, of the list that it left and of the one that it came to; or that this had no room.
+pub(crate) enum Ends {
+    At(u32, u32),
+    NoRoom,
+}
+
 // Whether the token stands at the answer: down at an abstraction with an empty tape.
 pub(crate) fn is_answer(table: &[u32], n: u32, session: Session) -> bool
-    ensures { λ r. ⌜ ((ls ts : List ℕ) (s : State) → Stands (now (table .entry)) n session ls ts s → r ≡ isAnswer (tableIn (now (table .entry)) n) s) ⌝ }
+    ensures { λ r. ⌜ TellsAnswer (now (table .entry)) n session r ⌝ }
 {
     let dir = session.dir;
     match dir {
@@ -44,17 +52,6 @@ pub(crate) fn is_answer(table: &[u32], n: u32, session: Session) -> bool
     }
 }
 
-// Whether a rule fits.
-pub(crate) fn has_rule(table: &[u32], n: u32, session: Session, log: &[u32], tape: &[u32]) -> bool
-    requires { ⌜ Ready (now table) n session (now log) (now tape) ⌝ }
-    ensures { λ r. ⌜ ((s : State) → Stands (now (table .entry)) n session (now (log .entry)) (now (tape .entry)) s → r ≡ not (isNone (stepOf (tableIn (now (table .entry)) n) s))) ⌝ }
-{
-    match chosen(table, n, session, tape) {
-        Rule::Unfit => false,
-        _ => true,
-    }
-}
-
 // Rules 1 and 7. A bullet goes onto the tape: the word 0, which lies above the top already.
 fn push_bullet(session: Session, node: u32, dir: Dir, tape: &[u32]) -> Stepped
     requires { ⌜ length (now tape) ≤ longest ⌝ }
@@ -64,10 +61,9 @@ fn push_bullet(session: Session, node: u32, dir: Dir, tape: &[u32]) -> Stepped
     if tape.len() <= m {
         return Stepped::TapeFull;
     }
-    Stepped::Moved(Session {
+    Stepped::Made(Arrival {
         node: node,
         dir: dir,
-        position: session.position,
         log_len: session.log_len,
         tape_len: session.tape_len + 1,
     })
@@ -78,151 +74,126 @@ fn pop_bullet(session: Session, node: u32, dir: Dir) -> Stepped
     requires { ⌜ 1 ≤ session .«tape_len» ⌝ }
     ensures { λ r. ⌜ BulletGoes session node dir r ⌝ }
 {
-    Stepped::Moved(Session {
+    Stepped::Made(Arrival {
         node: node,
         dir: dir,
-        position: session.position,
         log_len: session.log_len,
         tape_len: session.tape_len - 1,
     })
 }
 
-// Rule 3. To the binder, up; the top arity-many entries leave the log, and the variable's word goes onto the tape above theirs.
-fn rule_3(
-    table: &[u32],
-    n: u32,
-    session: Session,
-    node: u32,
-    log: &mut [u32],
-    tape: &mut [u32],
-) -> Stepped
-    requires { ⌜ Fitting (now table) n session (now log) (now tape) (Rule.Three node) ⌝ }
-    ensures { λ r. ⌜ Steps (now (table .entry)) n session (now (log .entry)) (now (tape .entry)) r (now (log .exit)) (now (tape .exit)) ⌝ }
+// Rule 3. To the binder, up; the top arity-many entries leave the log, and the entry of the variable and these goes onto the tape.
+fn rule_3(table: &[u32], n: u32, at: Session, to: u32, log: &mut [u32], tape: &mut [u32]) -> Stepped
+    requires { ⌜ Fitting (now table) n at (now log) (now tape) (Rule.Three to) ⌝ }
+    ensures { λ r. ⌜ Steps (now (table .entry)) n at (now (log .entry)) (now (tape .entry)) r (now (log .exit)) (now (tape .exit)) ⌝ }
 {
-    let l = session.log_len as usize;
-    let m = session.tape_len as usize;
-    let owed = arity(table, n, session.node) as usize;
-    let k = span(table, n, &log[..], l, owed);
-    if tape.len() - m <= k {
-        return Stepped::TapeFull;
+    let l = at.log_len as usize;
+    let m = at.tape_len as usize;
+    let owed = arity(table, n, at.node) as usize;
+    let moving = make_entry(table, n, log, l, owed, at.node, &mut tape[m..]);
+    match moving {
+        Moving::Moved(k) => Stepped::Made(Arrival {
+            node: to,
+            dir: Dir::Up,
+            log_len: (l - k) as u32,
+            tape_len: (m + k + 1) as u32,
+        }),
+        Moving::NoRoom => Stepped::TapeFull,
     }
-    move_words(log, l, k, &mut tape[m..]);
-    tape[m + k] = session.node;
-    Stepped::Moved(Session {
-        node: node,
-        dir: Dir::Up,
-        position: session.position,
-        log_len: (l - k) as u32,
-        tape_len: (m + k + 1) as u32,
-    })
 }
 
-// Rule 4. To the entry's variable, up; its word leaves the tape, and the entries inside it go onto the log in their order.
-fn rule_4(
-    table: &[u32],
-    n: u32,
-    session: Session,
-    node: u32,
-    log: &mut [u32],
-    tape: &mut [u32],
-) -> Stepped
-    requires { ⌜ Fitting (now table) n session (now log) (now tape) (Rule.Four node) ⌝ }
-    ensures { λ r. ⌜ Steps (now (table .entry)) n session (now (log .entry)) (now (tape .entry)) r (now (log .exit)) (now (tape .exit)) ⌝ }
+// Rule 4. To the entry's variable, up; the entries inside it go onto the log in their order, and its own word leaves the tape.
+fn rule_4(table: &[u32], n: u32, at: Session, to: u32, log: &mut [u32], tape: &mut [u32]) -> Stepped
+    requires { ⌜ Fitting (now table) n at (now log) (now tape) (Rule.Four to) ⌝ }
+    ensures { λ r. ⌜ Steps (now (table .entry)) n at (now (log .entry)) (now (tape .entry)) r (now (log .exit)) (now (tape .exit)) ⌝ }
 {
-    let l = session.log_len as usize;
-    let m = session.tape_len as usize;
-    let whole = span(table, n, &tape[..], m, 1);
-    let k = whole - 1;
-    if log.len() - l < k {
-        return Stepped::LogFull;
+    let l = at.log_len as usize;
+    let under = at.tape_len as usize - 1;
+    let owed = arity(table, n, to) as usize;
+    let moving = move_entries(table, n, tape, under, owed, &mut log[l..]);
+    match moving {
+        Moving::Moved(k) => {
+            tape[under] = 0;
+            Stepped::Made(Arrival {
+                node: to,
+                dir: Dir::Up,
+                log_len: (l + k) as u32,
+                tape_len: (under - k) as u32,
+            })
+        }
+        Moving::NoRoom => Stepped::LogFull,
     }
-    tape[m - 1] = 0;
-    move_words(tape, m - 1, k, &mut log[l..]);
-    Stepped::Moved(Session {
-        node: node,
-        dir: Dir::Up,
-        position: session.position,
-        log_len: (l + k) as u32,
-        tape_len: (m - whole) as u32,
-    })
 }
 
-// Rule 6. To the argument, down; the entry on top of the tape moves to the log.
-fn rule_6(
-    table: &[u32],
-    n: u32,
-    session: Session,
-    node: u32,
-    log: &mut [u32],
-    tape: &mut [u32],
-) -> Stepped
-    requires { ⌜ Fitting (now table) n session (now log) (now tape) (Rule.Six node) ⌝ }
-    ensures { λ r. ⌜ Steps (now (table .entry)) n session (now (log .entry)) (now (tape .entry)) r (now (log .exit)) (now (tape .exit)) ⌝ }
+// Rules 6 and 8. The top entry of one list, which has `top` words, moves to the other, which has `end`.
+fn move_top(table: &[u32], n: u32, from: &mut [u32], top: u32, to: &mut [u32], end: u32) -> Ends
+    requires { ⌜ ListIn (now from) top × ListIn (now to) end ⌝ }
+    ensures { λ r. ⌜ TopMoved (tableIn (now (table .entry)) n) (now (from .entry)) top (now (to .entry)) end r (now (from .exit)) (now (to .exit)) ⌝ }
 {
-    let l = session.log_len as usize;
-    let m = session.tape_len as usize;
-    let k = span(table, n, &tape[..], m, 1);
-    if log.len() - l < k {
-        return Stepped::LogFull;
+    let m = end as usize;
+    let moving = move_entries(table, n, from, top as usize, 1, &mut to[m..]);
+    match moving {
+        Moving::Moved(k) => Ends::At(top - k as u32, end + k as u32),
+        Moving::NoRoom => Ends::NoRoom,
     }
-    move_words(tape, m, k, &mut log[l..]);
-    Stepped::Moved(Session {
-        node: node,
-        dir: Dir::Down,
-        position: session.position,
-        log_len: (l + k) as u32,
-        tape_len: (m - k) as u32,
-    })
 }
 
-// Rule 8. To the function, down; the log's top entry moves to the tape.
-fn rule_8(
-    table: &[u32],
-    n: u32,
-    session: Session,
-    node: u32,
-    log: &mut [u32],
-    tape: &mut [u32],
-) -> Stepped
-    requires { ⌜ Fitting (now table) n session (now log) (now tape) (Rule.Eight node) ⌝ }
-    ensures { λ r. ⌜ Steps (now (table .entry)) n session (now (log .entry)) (now (tape .entry)) r (now (log .exit)) (now (tape .exit)) ⌝ }
+// Rule 6. To the argument, down; the entry on top of the tape has moved to the log.
+fn onto_log(to: u32, ends: Ends) -> Stepped
+    ensures { λ r. ⌜ r ≡ ontoLog to ends ⌝ }
 {
-    let l = session.log_len as usize;
-    let m = session.tape_len as usize;
-    let k = span(table, n, &log[..], l, 1);
-    if tape.len() - m < k {
-        return Stepped::TapeFull;
+    match ends {
+        Ends::At(tape_len, log_len) => Stepped::Made(Arrival {
+            node: to,
+            dir: Dir::Down,
+            log_len: log_len,
+            tape_len: tape_len,
+        }),
+        Ends::NoRoom => Stepped::LogFull,
     }
-    move_words(log, l, k, &mut tape[m..]);
-    Stepped::Moved(Session {
-        node: node,
-        dir: Dir::Down,
-        position: session.position,
-        log_len: (l - k) as u32,
-        tape_len: (m + k) as u32,
-    })
 }
 
-// One step by the rule that fits, if there is one and the slices have room for it.
+// Rule 8. To the function, down; the log's top entry has moved to the tape.
+fn onto_tape(to: u32, ends: Ends) -> Stepped
+    ensures { λ r. ⌜ r ≡ ontoTape to ends ⌝ }
+{
+    match ends {
+        Ends::At(log_len, tape_len) => Stepped::Made(Arrival {
+            node: to,
+            dir: Dir::Down,
+            log_len: log_len,
+            tape_len: tape_len,
+        }),
+        Ends::NoRoom => Stepped::TapeFull,
+    }
+}
+
+// One step by a rule that fits, if the slices have room for it.
 pub(crate) fn step(
     table: &[u32],
     n: u32,
     session: Session,
     log: &mut [u32],
     tape: &mut [u32],
+    rule: Rule,
 ) -> Stepped
-    requires { ⌜ Ready (now table) n session (now log) (now tape) ⌝ }
-    ensures { λ r. ⌜ ((s : State) → Stands (now (table .entry)) n session (now (log .entry)) (now (tape .entry)) s → StepIs (now (table .entry)) n session (now (log .entry)) (now (tape .entry)) s r (now (log .exit)) (now (tape .exit))) ⌝ }
+    requires { ⌜ Fitting (now table) n session (now log) (now tape) rule ⌝ }
+    ensures { λ r. ⌜ Steps (now (table .entry)) n session (now (log .entry)) (now (tape .entry)) r (now (log .exit)) (now (tape .exit)) ⌝ }
 {
-    match chosen(table, n, session, &tape[..]) {
+    match rule {
         Rule::One(node) => push_bullet(session, node, Dir::Down, &tape[..]),
         Rule::Two(node) => pop_bullet(session, node, Dir::Down),
         Rule::Three(node) => rule_3(table, n, session, node, log, tape),
         Rule::Four(node) => rule_4(table, n, session, node, log, tape),
         Rule::Five(node) => pop_bullet(session, node, Dir::Up),
-        Rule::Six(node) => rule_6(table, n, session, node, log, tape),
+        Rule::Six(node) => {
+            let ends = move_top(table, n, tape, session.tape_len, log, session.log_len);
+            onto_log(node, ends)
+        }
         Rule::Seven(node) => push_bullet(session, node, Dir::Up, &tape[..]),
-        Rule::Eight(node) => rule_8(table, n, session, node, log, tape),
-        Rule::Unfit => Stepped::NoRule,
+        Rule::Eight(node) => {
+            let ends = move_top(table, n, log, session.log_len, tape, session.tape_len);
+            onto_tape(node, ends)
+        }
     }
 }

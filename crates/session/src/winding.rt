@@ -1,20 +1,20 @@
 // The steps of a call: forward or back until a stop.
 ghost use mathlib.Core.Path.{_≡_};
-ghost use Prim.Native.Nat.{max};
-ghost use Rattle.term.specs.Table.{tableIn};
-ghost use Rattle.machine.specs.Machine.{State, turned as otherDir};
-ghost use Rattle.calls.specs.Stops.{moment, room, ahead, behind, stopAhead, stopBehind};
-ghost use Rattle.calls.specs.Calls.{wound};
-ghost use Rattle.session.specs.Types.{dirMeant, sessionMeant, answered};
-ghost use Rattle.session.specs.Steps.{Stands, Ready, TurnIs};
-ghost use Rattle.session.specs.Anew.{turnedSession, sessionWith};
-ghost use Rattle.session.specs.Ways.{nextBy, stopBy, runBy};
+ghost use Prim.Native.Nat.{_+_, max, _≤_, _<_};
+ghost use lib.ListN.{length};
+ghost use Rattle.machine.specs.Machine.{turned as otherDir};
+ghost use Rattle.session.specs.Types.{dirMeant, sessionMeant, wayMeant};
+ghost use Rattle.session.specs.Steps.{Ready, arrivedAt};
+ghost use Rattle.session.specs.Passes.{turnedSession, facingSession, HasNext, sessionAfter, TellsBefore, Passes, weightOf, begunAt, lengthenedTo, endedBy, Winds};
 use crate::Dir;
 use crate::Outcome;
 use crate::Session;
 use crate::Stop;
+use crate::choice::Fit;
+use crate::choice::Rule;
+use crate::choice::chosen;
+use crate::rules::Arrival;
 use crate::rules::Stepped;
-use crate::rules::has_rule;
 use crate::rules::is_answer;
 use crate::rules::step;
 
@@ -24,8 +24,14 @@ pub(crate) enum Way {
     Back,
 }
 
-// One turn of the loop: on with the session after a step, or halted.
-pub(crate) enum Wound {
+// What comes before a step: its stop, or the rule that the step is made by.
+pub(crate) enum Before {
+    Ends(Stop),
+    Makes(Rule),
+}
+
+// One pass of the loop: on with the session after a step, or halted.
+pub(crate) enum Pass {
     On(Session),
     Halted(Stop),
 }
@@ -40,7 +46,7 @@ fn turned_dir(d: Dir) -> Dir
 }
 
 // The session with its direction turned.
-fn turned(session: Session) -> Session
+fn turned_session(session: Session) -> Session
     ensures { λ r. ⌜ sessionMeant r ≡ turnedSession (sessionMeant session) ⌝ }
 {
     let d = session.dir;
@@ -54,83 +60,107 @@ fn turned(session: Session) -> Session
     }
 }
 
-// The session at another position.
-fn at_position(session: Session, position: u32) -> Session
-    ensures { λ r. ⌜ sessionMeant r ≡ sessionWith position (sessionMeant session) ⌝ }
+// What a step is made from. A step back is: turn the direction, make one step, turn it again.
+fn facing_session(session: Session, way: Way) -> Session
+    ensures { λ r. ⌜ sessionMeant r ≡ facingSession (wayMeant way) (sessionMeant session) ⌝ }
 {
-    let d = session.dir;
+    match way {
+        Way::Forward => session,
+        Way::Back => turned_session(session),
+    }
+}
+
+// The session where a step leads.
+fn session_at(to: Arrival, dir: Dir, position: u32) -> Session
+    ensures { λ r. ⌜ r ≡ record { node = to .node; dir = dir; position = position; «log_len» = to .«log_len»; «tape_len» = to .«tape_len» } ⌝ }
+{
     Session {
-        node: session.node,
-        dir: d,
+        node: to.node,
+        dir: dir,
         position: position,
-        log_len: session.log_len,
-        tape_len: session.tape_len,
+        log_len: to.log_len,
+        tape_len: to.tape_len,
     }
 }
 
-// One turn forward, the count not used up.
-fn advance(table: &[u32], n: u32, session: Session, log: &mut [u32], tape: &mut [u32]) -> Wound
-    requires { ⌜ Ready (now table) n session (now log) (now tape) ⌝ }
-    ensures { λ r. ⌜ ((s : State) → Stands (now (table .entry)) n session (now (log .entry)) (now (tape .entry)) s → TurnIs (λ m. ahead (tableIn (now (table .entry)) n) m) (λ c m. stopAhead (tableIn (now (table .entry)) n) (room (now (log .entry)) (now (tape .entry))) c m) (now (table .entry)) n session (now (log .entry)) (now (tape .entry)) s r (now (log .exit)) (now (tape .exit))) ⌝ }
+// The session after a step, forward or back.
+fn after_step(session: Session, to: Arrival, way: Way) -> Session
+    requires { ⌜ HasNext (wayMeant way) (session .position) ⌝ }
+    ensures { λ r. ⌜ sessionMeant r ≡ sessionAfter (wayMeant way) (sessionMeant (arrivedAt (session .position) to)) ⌝ }
 {
-    if is_answer(table, n, session) {
-        return Wound::Halted(Stop::Answer(session.node));
-    }
-    let position = session.position;
-    if position == 0xffff_ffff {
-        if has_rule(table, n, session, &log[..], &tape[..]) {
-            return Wound::Halted(Stop::Far);
+    let dir = to.dir;
+    match way {
+        Way::Forward => session_at(to, dir, session.position + 1),
+        Way::Back => {
+            let again = turned_dir(dir);
+            session_at(to, again, session.position - 1)
         }
-        return Wound::Halted(Stop::Jam);
-    }
-    match step(table, n, session, log, tape) {
-        Stepped::Moved(to) => {
-            let next = at_position(to, position + 1);
-            Wound::On(next)
-        }
-        Stepped::NoRule => Wound::Halted(Stop::Jam),
-        Stepped::LogFull => Wound::Halted(Stop::LogFull),
-        Stepped::TapeFull => Wound::Halted(Stop::TapeFull),
     }
 }
 
-// One turn back, the count not used up: the session is turned, makes one step, and is turned again.
-fn retreat(table: &[u32], n: u32, session: Session, log: &mut [u32], tape: &mut [u32]) -> Wound
-    requires { ⌜ Ready (now table) n session (now log) (now tape) ⌝ }
-    ensures { λ r. ⌜ ((s : State) → Stands (now (table .entry)) n session (now (log .entry)) (now (tape .entry)) s → TurnIs (λ m. behind (tableIn (now (table .entry)) n) m) (λ c m. stopBehind (tableIn (now (table .entry)) n) (room (now (log .entry)) (now (tape .entry))) c m) (now (table .entry)) n session (now (log .entry)) (now (tape .entry)) s r (now (log .exit)) (now (tape .exit))) ⌝ }
+// What ends a walk before a step, the count not used up, but for a full slice, which the mover finds. The tests are in the order of document 01.
+fn before_step(table: &[u32], n: u32, session: Session, tape: &[u32], way: Way) -> Before
+    requires { ⌜ session .«tape_len» ≤ length (now tape) ⌝ }
+    ensures { λ r. ⌜ TellsBefore (now (table .entry)) n session (now (tape .entry)) (wayMeant way) r ⌝ }
 {
-    let position = session.position;
-    if position == 0 {
-        return Wound::Halted(Stop::Start);
-    }
-    let about = turned(session);
-    match step(table, n, about, log, tape) {
-        Stepped::Moved(to) => {
-            let again = turned(to);
-            let next = at_position(again, position - 1);
-            Wound::On(next)
+    match way {
+        Way::Forward => {
+            if is_answer(table, n, session) {
+                return Before::Ends(Stop::Answer(session.node));
+            }
+            let fit = chosen(table, n, session, tape);
+            match fit {
+                Fit::Unfit => Before::Ends(Stop::Jam),
+                Fit::By(rule) => {
+                    if session.position == 0xffff_ffff {
+                        Before::Ends(Stop::Far)
+                    } else {
+                        Before::Makes(rule)
+                    }
+                }
+            }
         }
-        Stepped::NoRule => Wound::Halted(Stop::Jam),
-        Stepped::LogFull => Wound::Halted(Stop::LogFull),
-        Stepped::TapeFull => Wound::Halted(Stop::TapeFull),
+        Way::Back => {
+            if session.position == 0 {
+                return Before::Ends(Stop::Start);
+            }
+            let about = turned_session(session);
+            let fit = chosen(table, n, about, tape);
+            match fit {
+                Fit::Unfit => Before::Ends(Stop::Jam),
+                Fit::By(rule) => Before::Makes(rule),
+            }
+        }
     }
 }
 
-// One turn, the count not used up.
-fn one_turn(
+// One pass, the count not used up.
+fn one_pass(
     table: &[u32],
     n: u32,
     session: Session,
     log: &mut [u32],
     tape: &mut [u32],
     way: Way,
-) -> Wound
+) -> Pass
     requires { ⌜ Ready (now table) n session (now log) (now tape) ⌝ }
-    ensures { λ r. ⌜ ((s : State) → Stands (now (table .entry)) n session (now (log .entry)) (now (tape .entry)) s → TurnIs (λ m. nextBy way (tableIn (now (table .entry)) n) m) (λ c m. stopBy way (tableIn (now (table .entry)) n) (room (now (log .entry)) (now (tape .entry))) c m) (now (table .entry)) n session (now (log .entry)) (now (tape .entry)) s r (now (log .exit)) (now (tape .exit))) ⌝ }
+    ensures { λ r. ⌜ Passes (now (table .entry)) n session (now (log .entry)) (now (tape .entry)) way r (now (log .exit)) (now (tape .exit)) ⌝ }
 {
-    match way {
-        Way::Forward => advance(table, n, session, log, tape),
-        Way::Back => retreat(table, n, session, log, tape),
+    let told = before_step(table, n, session, &tape[..], way);
+    match told {
+        Before::Ends(stop) => Pass::Halted(stop),
+        Before::Makes(rule) => {
+            let about = facing_session(session, way);
+            let stepped = step(table, n, about, log, tape, rule);
+            match stepped {
+                Stepped::Made(to) => {
+                    let next = after_step(session, to, way);
+                    Pass::On(next)
+                }
+                Stepped::LogFull => Pass::Halted(Stop::LogFull),
+                Stepped::TapeFull => Pass::Halted(Stop::TapeFull),
+            }
+        }
     }
 }
 
@@ -140,7 +170,64 @@ fn larger(a: u32, b: u32) -> u32
     if a < b { b } else { a }
 }
 
-// At most `count` turns, and the peak over the states stood in.
+// The words of log and tape together: what a peak is the greatest of.
+fn weight(session: Session) -> u32
+    requires { ⌜ weightOf session ≤ 32768 ⌝ }
+    ensures { λ r. ⌜ r ≡ weightOf session ⌝ }
+{
+    session.log_len + session.tape_len
+}
+
+// The outcome of no step.
+fn begun(session: Session) -> Outcome
+    requires { ⌜ weightOf session ≤ 32768 ⌝ }
+    ensures { λ r. ⌜ r ≡ begunAt session ⌝ }
+{
+    let peak = weight(session);
+    Outcome {
+        session: session,
+        steps: 0,
+        stop: Stop::Spent,
+        peak: peak,
+    }
+}
+
+fn one_more(steps: u32) -> u32
+    requires { ⌜ steps < 4294967295 ⌝ }
+    ensures { λ r. ⌜ r ≡ steps + 1 ⌝ }
+{
+    steps + 1
+}
+
+// The outcome with one step more.
+fn lengthened(run: Outcome, to: Session) -> Outcome
+    requires { ⌜ (weightOf to ≤ 32768) × (run .steps < 4294967295) ⌝ }
+    ensures { λ r. ⌜ r ≡ lengthenedTo run to ⌝ }
+{
+    let steps = one_more(run.steps);
+    let peak = larger(run.peak, weight(to));
+    Outcome {
+        session: to,
+        steps: steps,
+        stop: Stop::Spent,
+        peak: peak,
+    }
+}
+
+// The outcome with another stop than spent.
+fn halted(run: Outcome, stop: Stop) -> Outcome
+    ensures { λ r. ⌜ r ≡ endedBy run stop ⌝ }
+{
+    let session = run.session;
+    Outcome {
+        session: session,
+        steps: run.steps,
+        stop: stop,
+        peak: run.peak,
+    }
+}
+
+// At most `count` passes, and the peak over the states stood in.
 pub(crate) fn wind(
     table: &[u32],
     n: u32,
@@ -151,32 +238,20 @@ pub(crate) fn wind(
     count: u32,
 ) -> Outcome
     requires { ⌜ Ready (now table) n session (now log) (now tape) ⌝ }
-    ensures { λ r. ⌜ ((s : State) → Stands (now (table .entry)) n session (now (log .entry)) (now (tape .entry)) s → answered r (now (log .exit)) (now (tape .exit)) ≡ wound (room (now (log .entry)) (now (tape .entry))) (runBy way (tableIn (now (table .entry)) n) (room (now (log .entry)) (now (tape .entry))) count (moment s (session .position)))) ⌝ }
+    ensures { λ r. ⌜ Winds (now (table .entry)) n session (now (log .entry)) (now (tape .entry)) way count r (now (log .exit)) (now (tape .exit)) ⌝ }
 {
-    let mut here = session;
-    let mut steps: u32 = 0;
-    let mut peak: u32 = session.log_len + session.tape_len;
-    while steps < count {
-        match one_turn(table, n, here, log, tape, way) {
-            Wound::Halted(stop) => {
-                return Outcome {
-                    session: here,
-                    steps: steps,
-                    stop: stop,
-                    peak: peak,
-                };
+    let mut run = begun(session);
+    while run.steps < count {
+        let here = run.session;
+        let pass = one_pass(table, n, here, log, tape, way);
+        match pass {
+            Pass::Halted(stop) => {
+                return halted(run, stop);
             }
-            Wound::On(to) => {
-                steps += 1;
-                peak = larger(peak, to.log_len + to.tape_len);
-                here = to;
+            Pass::On(to) => {
+                run = lengthened(run, to);
             }
         }
     }
-    Outcome {
-        session: here,
-        steps: steps,
-        stop: Stop::Spent,
-        peak: peak,
-    }
+    run
 }

@@ -14,7 +14,7 @@ use Rattle.term.specs.Table.{tableOf, tableIn}
 use Rattle.term.specs.Accepted.{mostNodes, Accepted, Part, part, partAt, isWhole, accepted}
 use Rattle.term.proofs.Choice.{both, each, fails}
 use Rattle.term.proofs.Rows.{size-positive, rows-length, table-stands, table-is}
-use Rattle.term.proofs.Reading.{reads, Read, reads-only}
+use Rattle.term.proofs.Reading.{reads, PartRead, reads-only}
 
 module _ (w : List ℕ) (n : ℕ) where
   pub term-size : (A : Accepted w n) → size (A .term) ≡ n
@@ -29,9 +29,9 @@ module _ (w : List ℕ) (n : ℕ) where
       reads (tableIn w n) n (A .term) [] 1 0 0 (table-stands w n (A .term) (A .same)) (A .closed) tt (omega arith)
       ∙ ap (λ j. some (part (A .term) j)) (omega arith)
 
-  pub accepts : Accepted w n → accepted w n ≡ true
+  pub accepts-all : Accepted w n → accepted w n ≡ true
   unfolding accepted
-  accepts A = both _ _ (both _ _ (both _ _ (le-leb 1 n (A .some-node)) (le-leb n mostNodes (A .few-nodes))) (le-leb (5 * n) (length w) (A .long)))
+  accepts-all A = both _ _ (both _ _ (both _ _ (le-leb 1 n (A .some-node)) (le-leb n mostNodes (A .few-nodes))) (le-leb (5 * n) (length w) (A .long)))
       (ap (isWhole n) (read-whole A) ∙ eq-eqb (suc n) (suc n) refl)
 
   whole-read : (o : Option Part) → isWhole n o ≡ true → (q : Part) × (o ≡ some q) × (q .next ≡ suc n)
@@ -45,7 +45,7 @@ module _ (w : List ℕ) (n : ℕ) where
       let b = each (leb 1 n && leb n mostNodes) (leb (5 * n) (length w)) (a .0) in
       let c = each (leb 1 n) (leb n mostNodes) (b .0) in
       let q = whole-read (partAt n (tableIn w n) [] 1 0 0) (a .1) in
-      let r : Read (tableIn w n) [] 1 0 0 (q .0) = reads-only (tableIn w n) n [] 1 0 0 (q .0) (q .1) in
+      let r : PartRead (tableIn w n) [] 1 0 0 (q .0) = reads-only (tableIn w n) n [] 1 0 0 (q .0) (q .1) in
       let l : 5 * n ≤ length w = leb-true (5 * n) (length w) (b .1) in
       record {
         some-node = leb-true 1 n (c .0);

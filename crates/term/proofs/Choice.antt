@@ -30,9 +30,9 @@ module _ {A : Type 0} where
   chained none f b e = absurd (Option·none-ne-some b e)
   chained (some a) f b e = (a, refl, e)
 
-  pub answers : (o : Option A) → not (isNone o) ≡ true → (a : A) × (o ≡ some a)
-  answers none e = absurd (false≢true e)
-  answers (some a) e = (a, refl)
+  pub some-answer : (o : Option A) → not (isNone o) ≡ true → (a : A) × (o ≡ some a)
+  some-answer none e = absurd (false≢true e)
+  some-answer (some a) e = (a, refl)
 
   pub lacks : (o : Option A) → not (isNone o) ≡ false → o ≡ none
   lacks none e = refl

@@ -1,5 +1,5 @@
 -- What an accepted table has, node by node.
-use mathlib.Core.Path.{_≡_, refl, sym, ap, ap₂, _∙_, subst}
+use mathlib.Core.Path.{_≡_, sym, ap, ap₂, _∙_, subst}
 use mathlib.Core.Bool.{cond}
 use mathlib.Core.List.{List, [], _∷_}
 use Prim.Native.Nat.{ℕ, zero, suc, _+_, _-_, _≤_, _<_}
@@ -14,8 +14,8 @@ use Rattle.term.specs.Table.{Table, tableIn, Kind, variable, abstraction
 use Rattle.term.specs.Accepted.{Accepted}
 use Rattle.term.specs.Facts.{IsNode, Stands, Below, as-body, under-body, under-function, under-argument, Bound, Facts}
 use Rattle.term.specs.Walk.{Row}
-use Rattle.term.proofs.Rows.{Holds, root-parent, root-level, size-positive, table-stands}
-use Rattle.term.proofs.Table.{kind-beyond, kind-before}
+use Rattle.term.proofs.Rows.{RowsIn, root-parent, root-level, size-positive, table-stands}
+use Rattle.term.proofs.Table.{nodes-are, row-before, kind-beyond, kind-before}
 use Rattle.term.proofs.Accepted.{term-size}
 
 -- The facts of a node, by its kind.
@@ -25,11 +25,11 @@ FactsOf T i abstraction = Stands T (T .left i) (bodyOf i) (T .level i)
 FactsOf T i application = Stands T (T .left i) (functionOf i) (T .level i) × Stands T (T .right i) (argumentOf i) (suc (T .level i))
 FactsOf T i nothing = ⊥
 
-abbrev There : Kind → Type 0
-There variable = Unit
-There abstraction = Unit
-There application = Unit
-There nothing = ⊥
+abbrev pub NodeKind : Kind → Type 0
+NodeKind variable = Unit
+NodeKind abstraction = Unit
+NodeKind application = Unit
+NodeKind nothing = ⊥
 
 module _ (T : Table) where
   -- where a child stands
@@ -49,13 +49,13 @@ module _ (T : Table) where
   place-argument i p e k l r =
       place-of i p 3 e k ∙ ap₂ (λ b c. cond b (functionOf p) (cond c (argumentOf p) nowhere)) (ne-eqb (T .left p) i l) (eq-eqb (T .right p) i r)
 
-  body-place : (b : Term) (bs : List ℕ) (i p v : ℕ) → Holds T (lam b) bs i p v → placeAt T (suc i) ≡ bodyOf i
+  body-place : (b : Term) (bs : List ℕ) (i p v : ℕ) → RowsIn T (lam b) bs i p v → placeAt T (suc i) ≡ bodyOf i
   body-place b bs i p v h = place-body (suc i) i (root-parent T b (i ∷ bs) (suc i) i v (h .1)) (h .0 .kind-is) (h .0 .left-is)
 
-  function-place : (f a : Term) (bs : List ℕ) (i p v : ℕ) → Holds T (app f a) bs i p v → placeAt T (suc i) ≡ functionOf i
+  function-place : (f a : Term) (bs : List ℕ) (i p v : ℕ) → RowsIn T (app f a) bs i p v → placeAt T (suc i) ≡ functionOf i
   function-place f a bs i p v h = place-function (suc i) i (root-parent T f bs (suc i) i v (h .1)) (h .0 .kind-is) (h .0 .left-is)
 
-  argument-place : (f a : Term) (bs : List ℕ) (i p v : ℕ) → Holds T (app f a) bs i p v → placeAt T (suc i + size f) ≡ argumentOf i
+  argument-place : (f a : Term) (bs : List ℕ) (i p v : ℕ) → RowsIn T (app f a) bs i p v → placeAt T (suc i + size f) ≡ argumentOf i
   argument-place f a bs i p v h =
       place-argument (suc i + size f) i (root-parent T a bs (suc i + size f) i (suc v) (h .2)) (h .0 .kind-is)
       (λ e. let l : T .left i ≡ suc i = h .0 .left-is in omega (arith, size-positive f)) (h .0 .right-is)
@@ -69,7 +69,7 @@ module _ (T : Table) where
   abbrev Binders : List ℕ → ℕ → ℕ → Type 0
   Binders bs i v = (x : ℕ) → x < length bs → Around (getD bs x 0) i v x
 
-  binders-body : (b : Term) (bs : List ℕ) (i p v : ℕ) → Holds T (lam b) bs i p v → Binders bs i v → Binders (i ∷ bs) (suc i) v
+  binders-body : (b : Term) (bs : List ℕ) (i p v : ℕ) → RowsIn T (lam b) bs i p v → Binders bs i v → Binders (i ∷ bs) (suc i) v
   unfolding kindOf
   binders-body b bs i p v h a zero e = record {
     binder = ap kindOf (h .0 .kind-is);
@@ -80,11 +80,11 @@ module _ (T : Table) where
       let c : Around (getD bs x 0) i v x = a x (le-of-suc-le-suc e) in
       record { binder = c .binder; binder-level = c .binder-level; below = under-body (body-place b bs i p v h) (c .below) }
 
-  binders-function : (f a : Term) (bs : List ℕ) (i p v : ℕ) → Holds T (app f a) bs i p v → Binders bs i v → Binders bs (suc i) v
+  binders-function : (f a : Term) (bs : List ℕ) (i p v : ℕ) → RowsIn T (app f a) bs i p v → Binders bs i v → Binders bs (suc i) v
   binders-function f a bs i p v h c x e =
       record { binder = c x e .binder; binder-level = c x e .binder-level; below = under-function (function-place f a bs i p v h) (c x e .below) }
 
-  binders-argument : (f a : Term) (bs : List ℕ) (i p v : ℕ) → Holds T (app f a) bs i p v → Binders bs i v → Binders bs (suc i + size f) (suc v)
+  binders-argument : (f a : Term) (bs : List ℕ) (i p v : ℕ) → RowsIn T (app f a) bs i p v → Binders bs i v → Binders bs (suc i + size f) (suc v)
   binders-argument f a bs i p v h c x e =
       let l : T .level (getD bs x 0) ≤ v = c x e .binder-level in
       record {
@@ -103,7 +103,7 @@ module _ (T : Table) where
     below = subst (λ b. Below T b i (T .level i - T .level b) x) (sym (h .left-is)) (subst (λ u. Below T (getD bs x 0) i (u - T .level (getD bs x 0)) x) (sym (h .level-is)) (a .below));
   }
 
-  facts-abstraction : (b : Term) (bs : List ℕ) (i p v : ℕ) → Holds T (lam b) bs i p v → IsNode T (suc i) → FactsOf T i (kindAt T i)
+  facts-abstraction : (b : Term) (bs : List ℕ) (i p v : ℕ) → RowsIn T (lam b) bs i p v → IsNode T (suc i) → FactsOf T i (kindAt T i)
   unfolding kindOf
   facts-abstraction b bs i p v h n =
       subst (λ k. FactsOf T i (kindOf k)) (sym (h .0 .kind-is)) (subst (λ j. Stands T j (bodyOf i) (T .level i)) (sym (h .0 .left-is)) record {
@@ -112,7 +112,7 @@ module _ (T : Table) where
         level-is = root-level T b (i ∷ bs) (suc i) i v (h .1) ∙ sym (h .0 .level-is);
       })
 
-  facts-application : (f a : Term) (bs : List ℕ) (i p v : ℕ) → Holds T (app f a) bs i p v → IsNode T (suc i) → IsNode T (suc i + size f) → FactsOf T i (kindAt T i)
+  facts-application : (f a : Term) (bs : List ℕ) (i p v : ℕ) → RowsIn T (app f a) bs i p v → IsNode T (suc i) → IsNode T (suc i + size f) → FactsOf T i (kindAt T i)
   unfolding kindOf
   facts-application f a bs i p v h n m = subst (λ k. FactsOf T i (kindOf k)) (sym (h .0 .kind-is)) (
     subst (λ j. Stands T j (functionOf i) (T .level i)) (sym (h .0 .left-is)) record {
@@ -130,7 +130,7 @@ module _ (T : Table) where
   at-root : (i j : ℕ) → i ≤ j → j ≤ i → FactsOf T i (kindAt T i) → FactsOf T j (kindAt T j)
   at-root i j l u f = subst (λ k. FactsOf T k (kindAt T k)) (let e : i ≡ j = omega arith in e) f
 
-  node-facts : (t : Term) (bs : List ℕ) (i p v : ℕ) → Holds T t bs i p v → Binders bs i v → ClosedUnder (length bs) t → i + size t ≤ suc (T .nodes)
+  node-facts : (t : Term) (bs : List ℕ) (i p v : ℕ) → RowsIn T t bs i p v → Binders bs i v → ClosedUnder (length bs) t → i + size t ≤ suc (T .nodes)
       → (j : ℕ) → i ≤ j → j < i + size t → FactsOf T j (kindAt T j)
   node-facts (var x) bs i p v h b c n j l u = at-root i j l (omega arith) (facts-variable x bs i p v h (b x c))
   node-facts (lam t) bs i p v h b c n j l u = elim (decLe j i) [
@@ -148,31 +148,30 @@ module _ (T : Table) where
 
 module _ (w : List ℕ) (n : ℕ) where
   only-node : (i : ℕ) → (kindAt (tableIn w n) i ≡ nothing → ⊥) → IsNode (tableIn w n) i
-  unfolding tableIn
   only-node zero h = absurd (h (kind-before w n))
   only-node (suc i) h = elim (decLe (suc i) n) [
-    | yes e ↦ record { from-one = omega arith; to-last = e }
+    | yes e ↦ record { from-one = omega arith; to-last = rw nodes-are e }
     | no e ↦ absurd (h (kind-beyond w n (suc i) (omega arith)))
   ]
 
   -- a node's facts, and those that its kind gives it
   table-facts : Accepted w n → (i : ℕ) → IsNode (tableIn w n) i → FactsOf (tableIn w n) i (kindAt (tableIn w n) i)
-  unfolding tableIn
   table-facts A i h =
       let e : size (A .term) ≡ n = term-size w n A in
-      let l : i ≤ n = h .to-last in
+      let m : tableIn w n .nodes ≡ n = nodes-are w n in
+      let l : i ≤ n = rw m at (h .to-last) in
       node-facts (tableIn w n) (A .term) [] 1 0 0 (table-stands w n (A .term) (A .same)) (λ x z. absurd (not-suc-le-zero z)) (A .closed) (omega arith) i (h .from-one) (omega arith)
 
-  kind-facts : Accepted w n → (i : ℕ) (k : Kind) → There k → kindAt (tableIn w n) i ≡ k → FactsOf (tableIn w n) i k
-  kind-facts A i k t e = subst (FactsOf (tableIn w n) i) e (table-facts A i (only-node i (λ z. subst There (sym e ∙ z) t)))
+  kind-facts : Accepted w n → (i : ℕ) (k : Kind) → NodeKind k → kindAt (tableIn w n) i ≡ k → FactsOf (tableIn w n) i k
+  kind-facts A i k t e = subst (FactsOf (tableIn w n) i) e (table-facts A i (only-node i (λ z. subst NodeKind (sym e ∙ z) t)))
 
   root-stands : Accepted w n → Stands (tableIn w n) 1 nowhere 0
-  unfolding tableIn kindOf placeUnder
+  unfolding kindOf placeUnder
   root-stands A =
-      let h : Holds (tableIn w n) (A .term) [] 1 0 0 = table-stands w n (A .term) (A .same) in
+      let h : RowsIn (tableIn w n) (A .term) [] 1 0 0 = table-stands w n (A .term) (A .same) in
       record {
-        there = record { from-one = omega arith; to-last = A .some-node };
-        place-is = place-of (tableIn w n) 1 0 0 (root-parent (tableIn w n) (A .term) [] 1 0 0 h) refl;
+        there = record { from-one = omega arith; to-last = rw nodes-are (A .some-node) };
+        place-is = place-of (tableIn w n) 1 0 0 (root-parent (tableIn w n) (A .term) [] 1 0 0 h) (row-before w n .kind-is);
         level-is = root-level (tableIn w n) (A .term) [] 1 0 0 h;
       }
 

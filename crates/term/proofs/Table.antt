@@ -10,12 +10,12 @@ use Rattle.term.specs.Accepted.{Accepted}
 use Rattle.term.specs.Walk.{Row}
 
 -- the word's place, counted from the first word of node 1
-place-of : (i k : ℕ) → 5 * (suc i - 1) + k ≡ 5 * i + k
-place-of i k = omega arith
+word-place : (i k : ℕ) → 5 * (suc i - 1) + k ≡ 5 * i + k
+word-place i k = omega arith
 
 pub word-there : (w : List ℕ) (n i k : ℕ) → (i ≡ 0 → ⊥) → 5 * (i - 1) + k < 5 * n → getD w (5 * (i - 1) + k) 0 ≡ wordIn w n i k
 word-there w n zero k h l = absurd (h refl)
-word-there w n (suc i) k h l = ap (λ m. getD w m 0) (place-of i k) ∙ sym (getD-take (5 * n) w (5 * i + k) 0 (omega arith))
+word-there w n (suc i) k h l = ap (λ m. getD w m 0) (word-place i k) ∙ sym (getD-take (5 * n) w (5 * i + k) 0 (omega arith))
 
 pub word-ignored : (w : List ℕ) (n i k : ℕ) → 5 * n ≤ 5 * (i - 1) + k → 0 ≡ wordIn w n i k
 word-ignored w n zero k l = refl
@@ -28,10 +28,15 @@ word-short w n (suc i) k l = sym (List·getD-eq-default (take (5 * n) w) 0 (simp
 word-beyond : (w : List ℕ) (n i k : ℕ) → n < i → wordIn w n i k ≡ 0
 word-beyond w n i k h = sym (word-ignored w n i k (omega arith))
 
--- Above the last node each field is 0.
-pub beyond : (w : List ℕ) (n i : ℕ) → n < i → Row (tableIn w n) i 0 0 0 0 0
+-- A table has the n nodes that it is read with.
+pub nodes-are : (w : List ℕ) (n : ℕ) → tableIn w n .nodes ≡ n
 unfolding tableIn
-beyond w n i h = record {
+nodes-are w n = refl
+
+-- Above the last node each field is 0.
+pub row-beyond : (w : List ℕ) (n i : ℕ) → n < i → Row (tableIn w n) i 0 0 0 0 0
+unfolding tableIn
+row-beyond w n i h = record {
   kind-is = word-beyond w n i 0 h;
   left-is = word-beyond w n i 1 h;
   right-is = word-beyond w n i 2 h;
@@ -40,17 +45,17 @@ beyond w n i h = record {
 }
 
 -- Node 0 is not there either.
-pub before : (w : List ℕ) (n : ℕ) → Row (tableIn w n) 0 0 0 0 0 0
+pub row-before : (w : List ℕ) (n : ℕ) → Row (tableIn w n) 0 0 0 0 0 0
 unfolding tableIn
-before w n = record { kind-is = refl; left-is = refl; right-is = refl; parent-is = refl; level-is = refl }
+row-before w n = record { kind-is = refl; left-is = refl; right-is = refl; parent-is = refl; level-is = refl }
 
 pub kind-beyond : (w : List ℕ) (n i : ℕ) → n < i → kindAt (tableIn w n) i ≡ nothing
 unfolding kindOf
-kind-beyond w n i h = ap kindOf (beyond w n i h .kind-is)
+kind-beyond w n i h = ap kindOf (row-beyond w n i h .kind-is)
 
 pub kind-before : (w : List ℕ) (n : ℕ) → kindAt (tableIn w n) 0 ≡ nothing
 unfolding kindOf
-kind-before w n = ap kindOf (before w n .kind-is)
+kind-before w n = ap kindOf (row-before w n .kind-is)
 
 -- Words after the first 5 × n are ignored.
 pub ignored : (w u : List ℕ) (n : ℕ) → take (5 * n) w ≡ take (5 * n) u → tableIn w n ≡ tableIn u n

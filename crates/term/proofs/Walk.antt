@@ -13,14 +13,15 @@ use Rattle.term.specs.Choice.{_>>=_}
 use Rattle.term.specs.Term.{Term, var, lam, app}
 use Rattle.term.specs.Table.{Table, tableIn}
 use Rattle.term.specs.Accepted.{mostNodes, Part, part, partAt, isWhole, accepted}
-use Rattle.term.specs.Walk.{Row, RootIs, bindersIn, Ends, Answer, Walked}
-use Rattle.term.proofs.Rows.{Holds, root-parent, root-level, root-left, root-right, root-kind}
+use Rattle.term.specs.Walk.{Row, RootIs, bindersIn, PartEnds, PartAnswer, PartWalked}
+use Rattle.term.proofs.Table.{nodes-are}
+use Rattle.term.proofs.Rows.{RowsIn, root-parent, root-level, root-left, root-right, root-kind}
 use Rattle.term.proofs.Choice.{passed, failed, never}
 use Rattle.term.proofs.Reading.{part-variable, part-abstraction, argument, part-application, reads-only}
 use Rattle.term.proofs.Scope.{binders-push, isAround, around-index, around-none}
 
 -- no part where no term stands
-no-root : (T : Table) (i p v : ℕ) → ((bs : List ℕ) (t : Term) → Holds T t bs i p v → ⊥) → RootIs T i p v 0
+no-root : (T : Table) (i p v : ℕ) → ((bs : List ℕ) (t : Term) → RowsIn T t bs i p v → ⊥) → RootIs T i p v 0
 no-root T i p v h bs d = never (partAt d T bs i p v) (λ q e. h bs (q .term) (reads-only T d bs i p v q e .holds))
 
 -- what a node's own words say of it
@@ -84,10 +85,10 @@ only-application T i p v (suc (suc (suc zero))) h x y z = h
 only-application T i p v (suc (suc (suc (suc k)))) h x y z = absurd h
 
 -- an answer, from the one reading that it stands for
-answer-none : (last i r : ℕ) (read : ℕ → Option Part) → r ≡ 0 → ((d : ℕ) → suc last - i ≤ d → read d ≡ none) → Answer last i r read
+answer-none : (last i r : ℕ) (read : ℕ → Option Part) → r ≡ 0 → ((d : ℕ) → suc last - i ≤ d → read d ≡ none) → PartAnswer last i r read
 answer-none last i r read e h = record { broken = λ z. h; ends = λ z. absurd (z e) }
 
-answer-ends : (last i r : ℕ) (read : ℕ → Option Part) → Ends last i r read → Answer last i r read
+answer-ends : (last i r : ℕ) (read : ℕ → Option Part) → PartEnds last i r read → PartAnswer last i r read
 answer-ends last i r read h = record { broken = λ z. absurd (let l : i < r = h .later in omega arith); ends = λ z. h }
 
 -- a depth that suffices at a node is one more than one that suffices below it
@@ -96,129 +97,128 @@ deeper last i read o l h zero e = absurd (omega arith)
 deeper last i read o l h (suc d) e = h d (omega arith)
 
 module _ (T : Table) (bs : List ℕ) (i p v : ℕ) (there : i ≤ T .nodes) where
-  abbrev read : ℕ → Option Part
-  read d = partAt d T bs i p v
+  abbrev readPart : ℕ → Option Part
+  readPart d = partAt d T bs i p v
 
   module _ (row : Row T i 1 (T .left i) 0 p v) where
-    answer-variable : isAround (T .left i) bs ≡ true → Answer (T .nodes) i (i + 1) read
+    answer-variable : isAround (T .left i) bs ≡ true → PartAnswer (T .nodes) i (i + 1) readPart
     answer-variable e =
         let x = around-index (T .left i) bs e in
-        answer-ends (T .nodes) i (i + 1) read record {
+        answer-ends (T .nodes) i (i + 1) readPart record {
           later = omega arith;
           inside = omega arith;
           term = var (x .0);
-          is = deeper (T .nodes) i read (some (part (var (x .0)) (i + 1))) there
+          is = deeper (T .nodes) i readPart (some (part (var (x .0)) (i + 1))) there
               (λ d h. part-variable T d bs i p v (T .left i) row ∙ ap (λ o. o >>= λ y. some (part (var y) (suc i))) (x .1) ∙ ap (λ j. some (part (var (x .0)) j)) (sym (add-one i)));
         }
 
-    answer-unbound : isAround (T .left i) bs ≡ false → Answer (T .nodes) i 0 read
+    answer-unbound : isAround (T .left i) bs ≡ false → PartAnswer (T .nodes) i 0 readPart
     answer-unbound e =
-        answer-none (T .nodes) i 0 read refl
-        (deeper (T .nodes) i read none there (λ d h. part-variable T d bs i p v (T .left i) row ∙ ap (λ o. o >>= λ y. some (part (var y) (suc i))) (around-none (T .left i) bs e)))
+        answer-none (T .nodes) i 0 readPart refl
+        (deeper (T .nodes) i readPart none there (λ d h. part-variable T d bs i p v (T .left i) row ∙ ap (λ o. o >>= λ y. some (part (var y) (suc i))) (around-none (T .left i) bs e)))
 
   module _ (row : Row T i 2 (suc i) 0 p v) where
-    answer-abstraction : (r : ℕ) → Answer (T .nodes) (suc i) r (λ d. partAt d T (i ∷ bs) (suc i) i v) → Answer (T .nodes) i r read
+    answer-abstraction : (r : ℕ) → PartAnswer (T .nodes) (suc i) r (λ d. partAt d T (i ∷ bs) (suc i) i v) → PartAnswer (T .nodes) i r readPart
     answer-abstraction r b = record {
-      broken = λ z. deeper (T .nodes) i read none there (λ d h. part-abstraction T d bs i p v row ∙ ap (λ o. o >>= λ b. some (part (lam (b .term)) (b .next))) (b .broken z d h));
+      broken = λ z. deeper (T .nodes) i readPart none there (λ d h. part-abstraction T d bs i p v row ∙ ap (λ o. o >>= λ b. some (part (lam (b .term)) (b .next))) (b .broken z d h));
       ends = λ z. record {
         later = let l : suc i < r = b .ends z .later in omega arith;
         inside = b .ends z .inside;
         term = lam (b .ends z .term);
-        is = deeper (T .nodes) i read (some (part (lam (b .ends z .term)) r)) there
+        is = deeper (T .nodes) i readPart (some (part (lam (b .ends z .term)) r)) there
             (λ d h. part-abstraction T d bs i p v row ∙ ap (λ o. o >>= λ b. some (part (lam (b .term)) (b .next))) (b .ends z .is d h));
       };
     }
 
   module _ (row : Row T i 3 (suc i) (T .right i) p v) where
-    module _ (j : ℕ) (function : Answer (T .nodes) (suc i) j (λ d. partAt d T bs (suc i) i v)) where
-      answer-no-function : j ≡ 0 → Answer (T .nodes) i 0 read
+    module _ (j : ℕ) (function : PartAnswer (T .nodes) (suc i) j (λ d. partAt d T bs (suc i) i v)) where
+      answer-no-function : j ≡ 0 → PartAnswer (T .nodes) i 0 readPart
       answer-no-function e =
-          answer-none (T .nodes) i 0 read refl (deeper (T .nodes) i read none there (λ d h. part-application T d bs i p v (T .right i) row ∙ ap (λ o. o >>= argument T d bs i p v (T .right i)) (function .broken e d h)))
+          answer-none (T .nodes) i 0 readPart refl (deeper (T .nodes) i readPart none there (λ d h. part-application T d bs i p v (T .right i) row ∙ ap (λ o. o >>= argument T d bs i p v (T .right i)) (function .broken e d h)))
 
       module _ (one : j ≡ 0 → ⊥) where
         abbrev f : Term
         f = function .ends one .term
 
-        read-function : (d : ℕ) → suc (T .nodes) - suc i ≤ d → read (suc d) ≡ argument T d bs i p v (T .right i) (part f j)
+        read-function : (d : ℕ) → suc (T .nodes) - suc i ≤ d → readPart (suc d) ≡ argument T d bs i p v (T .right i) (part f j)
         read-function d h = part-application T d bs i p v (T .right i) row ∙ ap (λ o. o >>= argument T d bs i p v (T .right i)) (function .ends one .is d h)
 
-        answer-elsewhere : (T .right i ≡ j → ⊥) → Answer (T .nodes) i 0 read
+        answer-elsewhere : (T .right i ≡ j → ⊥) → PartAnswer (T .nodes) i 0 readPart
         answer-elsewhere e =
-            answer-none (T .nodes) i 0 read refl
-            (deeper (T .nodes) i read none there
+            answer-none (T .nodes) i 0 readPart refl
+            (deeper (T .nodes) i readPart none there
             (λ d h. read-function d h ∙ failed (eqb (T .right i) j) (partAt d T bs j i (suc v) >>= λ a. some (part (app f (a .term)) (a .next))) none (ne-eqb (T .right i) j e)))
 
-        read-argument : T .right i ≡ j → (d : ℕ) → suc (T .nodes) - suc i ≤ d → read (suc d) ≡ (partAt d T bs j i (suc v) >>= λ a. some (part (app f (a .term)) (a .next)))
+        read-argument : T .right i ≡ j → (d : ℕ) → suc (T .nodes) - suc i ≤ d → readPart (suc d) ≡ (partAt d T bs j i (suc v) >>= λ a. some (part (app f (a .term)) (a .next)))
         read-argument e d h =
             read-function d h
             ∙ passed (eqb (T .right i) j) (partAt d T bs j i (suc v) >>= λ a. some (part (app f (a .term)) (a .next))) none (eq-eqb (T .right i) j e)
 
-        answer-application : T .right i ≡ j → (r : ℕ) → Answer (T .nodes) j r (λ d. partAt d T bs j i (suc v)) → Answer (T .nodes) i r read
+        answer-application : T .right i ≡ j → (r : ℕ) → PartAnswer (T .nodes) j r (λ d. partAt d T bs j i (suc v)) → PartAnswer (T .nodes) i r readPart
         answer-application e r a =
             let l : suc i < j = function .ends one .later in
             record {
-              broken = λ z. deeper (T .nodes) i read none there
+              broken = λ z. deeper (T .nodes) i readPart none there
                   (λ d h. read-argument e d h ∙ ap (λ o. o >>= λ a. some (part (app f (a .term)) (a .next))) (a .broken z d (omega arith)));
               ends = λ z. record {
                 later = let k : j < r = a .ends z .later in omega arith;
                 inside = a .ends z .inside;
                 term = app f (a .ends z .term);
-                is = deeper (T .nodes) i read (some (part (app f (a .ends z .term)) r)) there
+                is = deeper (T .nodes) i readPart (some (part (app f (a .ends z .term)) r)) there
                     (λ d h. read-argument e d h ∙ ap (λ o. o >>= λ a. some (part (app f (a .term)) (a .next))) (a .ends z .is d (omega arith)));
               };
             }
 
 -- the same of the walk, whose scope holds the binders
 module _ (T : Table) (s : List ℕ) (depth i p v : ℕ) where
-  pub walked-none : RootIs T i p v 0 → Walked T s s depth i p v 0
+  pub walked-none : RootIs T i p v 0 → PartWalked T s s depth i p v 0
   walked-none h = record { answer = answer-none (T .nodes) i 0 (λ d. partAt d T (bindersIn s depth) i p v) refl (λ d l. h (bindersIn s depth) d); same = refl }
 
-  pub walked-variable : RootIs T i p v 1 → isAround (T .left i) (bindersIn s depth) ≡ true → Walked T s s depth i p v (i + 1)
+  pub walked-variable : RootIs T i p v 1 → isAround (T .left i) (bindersIn s depth) ≡ true → PartWalked T s s depth i p v (i + 1)
   walked-variable h e = record { answer = answer-variable T (bindersIn s depth) i p v (h .0) (h .1) e; same = refl }
 
-  pub walked-unbound : RootIs T i p v 1 → isAround (T .left i) (bindersIn s depth) ≡ false → Walked T s s depth i p v 0
+  pub walked-unbound : RootIs T i p v 1 → isAround (T .left i) (bindersIn s depth) ≡ false → PartWalked T s s depth i p v 0
   walked-unbound h e = record { answer = answer-unbound T (bindersIn s depth) i p v (h .0) (h .1) e; same = refl }
 
-  pub walked-abstraction : RootIs T i p v 2 → depth < length s → (u : List ℕ) (r : ℕ) → Walked T (set s depth i) u (depth + 1) (i + 1) i v r → Walked T s u depth i p v r
+  pub walked-abstraction : RootIs T i p v 2 → depth < length s → (u : List ℕ) (r : ℕ) → PartWalked T (set s depth i) u (depth + 1) (i + 1) i v r → PartWalked T s u depth i p v r
   walked-abstraction h l u r b =
-      let a : Walked T (set s depth i) u (suc depth) (suc i) i v r = subst₂ (λ d j. Walked T (set s depth i) u d j i v r) (add-one depth) (add-one i) b in
+      let a : PartWalked T (set s depth i) u (suc depth) (suc i) i v r = subst₂ (λ d j. PartWalked T (set s depth i) u d j i v r) (add-one depth) (add-one i) b in
       let e : bindersIn u (suc depth) ≡ i ∷ bindersIn s depth = a .same ∙ binders-push s depth i l in
       record {
         answer = answer-abstraction T (bindersIn s depth) i p v (h .0) (h .1) r
-            (subst (λ bs. Answer (T .nodes) (suc i) r (λ d. partAt d T bs (suc i) i v)) (binders-push s depth i l) (a .answer));
+            (subst (λ bs. PartAnswer (T .nodes) (suc i) r (λ d. partAt d T bs (suc i) i v)) (binders-push s depth i l) (a .answer));
         same = cc;
       }
 
-  module _ (h : RootIs T i p v 3) (u : List ℕ) (j : ℕ) (function : Walked T s u depth (i + 1) i v j) where
-    answer-function : Answer (T .nodes) (suc i) j (λ d. partAt d T (bindersIn s depth) (suc i) i v)
-    answer-function = subst (λ k. Answer (T .nodes) k j (λ d. partAt d T (bindersIn s depth) k i v)) (add-one i) (function .answer)
+  module _ (h : RootIs T i p v 3) (u : List ℕ) (j : ℕ) (function : PartWalked T s u depth (i + 1) i v j) where
+    answer-function : PartAnswer (T .nodes) (suc i) j (λ d. partAt d T (bindersIn s depth) (suc i) i v)
+    answer-function = subst (λ k. PartAnswer (T .nodes) k j (λ d. partAt d T (bindersIn s depth) k i v)) (add-one i) (function .answer)
 
-    pub walked-no-function : j ≡ 0 → Walked T s u depth i p v 0
+    pub walked-no-function : j ≡ 0 → PartWalked T s u depth i p v 0
     walked-no-function e = record { answer = answer-no-function T (bindersIn s depth) i p v (h .0) (h .1) j answer-function e; same = function .same }
 
-    pub walked-elsewhere : (j ≡ 0 → ⊥) → (T .right i ≡ j → ⊥) → Walked T s u depth i p v 0
+    pub walked-elsewhere : (j ≡ 0 → ⊥) → (T .right i ≡ j → ⊥) → PartWalked T s u depth i p v 0
     walked-elsewhere o e = record { answer = answer-elsewhere T (bindersIn s depth) i p v (h .0) (h .1) j answer-function o e; same = function .same }
 
-    pub walked-application : (j ≡ 0 → ⊥) → T .right i ≡ j → (t : List ℕ) (r : ℕ) → Walked T u t depth j i (v + 1) r → Walked T s t depth i p v r
+    pub walked-application : (j ≡ 0 → ⊥) → T .right i ≡ j → (t : List ℕ) (r : ℕ) → PartWalked T u t depth j i (v + 1) r → PartWalked T s t depth i p v r
     walked-application o e t r a = record {
       answer = answer-application T (bindersIn s depth) i p v (h .0) (h .1) j answer-function o e r
-          (subst₂ (λ bs w. Answer (T .nodes) j r (λ d. partAt d T bs j i w)) (function .same) (add-one v) (a .answer));
+          (subst₂ (λ bs w. PartAnswer (T .nodes) j r (λ d. partAt d T bs j i w)) (function .same) (add-one v) (a .answer));
       same = a .same ∙ function .same;
     }
 
 -- the walk over the whole table, and the test
 module _ (w s u : List ℕ) (n : ℕ) (some-node : 1 ≤ n) (few-nodes : n ≤ mostNodes) (long : 5 * n ≤ length w) where
-  abbrev whole : Bool
-  whole = isWhole n (partAt n (tableIn w n) [] 1 0 0)
+  abbrev wholePart : Bool
+  wholePart = isWhole n (partAt n (tableIn w n) [] 1 0 0)
 
-  only-whole : accepted w n ≡ whole
+  only-whole : accepted w n ≡ wholePart
   unfolding accepted
   only-whole =
-      ap (λ b. b && leb n mostNodes && leb (5 * n) (length w) && whole) (le-leb 1 n some-node)
-      ∙ ap (λ b. b && leb (5 * n) (length w) && whole) (le-leb n mostNodes few-nodes)
-      ∙ ap (λ b. b && whole) (le-leb (5 * n) (length w) long)
+      ap (λ b. b && leb n mostNodes && leb (5 * n) (length w) && wholePart) (le-leb 1 n some-node)
+      ∙ ap (λ b. b && leb (5 * n) (length w) && wholePart) (le-leb n mostNodes few-nodes)
+      ∙ ap (λ b. b && wholePart) (le-leb (5 * n) (length w) long)
 
-  pub walked-whole : (r : ℕ) → Walked (tableIn w n) s u 0 1 0 0 r → eqb r (n + 1) ≡ accepted w n
-  unfolding tableIn
-  walked-whole zero h = ne-eqb 0 (n + 1) (omega arith) ∙ sym (only-whole ∙ ap (isWhole n) (h .answer .broken refl n (omega arith)))
-  walked-whole (suc r) h = ap (eqb (suc r)) (add-one n) ∙ sym (only-whole ∙ ap (isWhole n) (h .answer .ends (omega arith) .is n (omega arith)))
+  pub walked-whole : (r : ℕ) → PartWalked (tableIn w n) s u 0 1 0 0 r → eqb r (n + 1) ≡ accepted w n
+  walked-whole zero h = ne-eqb 0 (n + 1) (omega arith) ∙ sym (only-whole ∙ ap (isWhole n) (h .answer .broken refl n (omega (arith, nodes-are w n))))
+  walked-whole (suc r) h = ap (eqb (suc r)) (add-one n) ∙ sym (only-whole ∙ ap (isWhole n) (h .answer .ends (omega arith) .is n (omega (arith, nodes-are w n))))

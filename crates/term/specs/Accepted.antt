@@ -32,13 +32,13 @@ abbrev pub part : Term → ℕ → Part
 part t j = record { term = t; next = j }
 
 -- how many of the binders stand before node b, the innermost first
-abbrev pub indexOf : ℕ → List ℕ → Option ℕ
-indexOf b [] = none
-indexOf b (c ∷ bs) = cond (eqb b c) (some 0) (indexOf b bs >>= λ x. some (suc x))
+abbrev pub binderIndex : ℕ → List ℕ → Option ℕ
+binderIndex b [] = none
+binderIndex b (c ∷ bs) = cond (eqb b c) (some 0) (binderIndex b bs >>= λ x. some (suc x))
 
 -- The part whose root is node i, read by the kind of that node; `more` reads a part below it.
 unfoldable pub partBy : Kind → Table → List ℕ → ℕ → ℕ → (List ℕ → ℕ → ℕ → ℕ → Option Part) → Option Part
-partBy variable T bs i v more = cond (eqb (T .right i) 0) (indexOf (T .left i) bs >>= λ x. some (part (var x) (suc i))) none
+partBy variable T bs i v more = cond (eqb (T .right i) 0) (binderIndex (T .left i) bs >>= λ x. some (part (var x) (suc i))) none
 partBy abstraction T bs i v more =
     cond (eqb (T .left i) (suc i) && eqb (T .right i) 0) (more (i ∷ bs) (suc i) i v >>= λ b. some (part (lam (b .term)) (b .next))) none
 partBy application T bs i v more =

@@ -31,24 +31,24 @@ bindersIn scope zero = []
 bindersIn scope (suc d) = getD scope d 0 ∷ bindersIn scope d
 
 -- Each node before node i is at most one binder around it and at most one level.
-pub record Room (scope : List ℕ) (n depth i v : ℕ) : Type 0 where
+pub record ScopeRoom (scope : List ℕ) (n depth i v : ℕ) : Type 0 where
   pub few-nodes : n ≤ mostNodes
   pub long : n ≤ length scope
   pub binders : depth < i
   pub levels : v < i
 
 -- A part is read that ends before node r, whatever the depth, if that is enough.
-pub record Ends (last i r : ℕ) (read : ℕ → Option Part) : Type 0 where
+pub record PartEnds (last i r : ℕ) (read : ℕ → Option Part) : Type 0 where
   pub later : i < r
   pub inside : r ≤ suc last
   pub term : Term
   pub is : (d : ℕ) → suc last - i ≤ d → read d ≡ some (part term r)
 
 -- The walk's answer: the node after the part whose root is node i, or 0 where there is none. It leaves the binders around as they were.
-pub record Answer (last i r : ℕ) (read : ℕ → Option Part) : Type 0 where
+pub record PartAnswer (last i r : ℕ) (read : ℕ → Option Part) : Type 0 where
   pub broken : r ≡ 0 → (d : ℕ) → suc last - i ≤ d → read d ≡ none
-  pub ends : (r ≡ 0 → ⊥) → Ends last i r read
+  pub ends : (r ≡ 0 → ⊥) → PartEnds last i r read
 
-pub record Walked (T : Table) (before after : List ℕ) (depth i p v r : ℕ) : Type 0 where
-  pub answer : Answer (T .nodes) i r (λ d. partAt d T (bindersIn before depth) i p v)
+pub record PartWalked (T : Table) (before after : List ℕ) (depth i p v r : ℕ) : Type 0 where
+  pub answer : PartAnswer (T .nodes) i r (λ d. partAt d T (bindersIn before depth) i p v)
   pub same : bindersIn after depth ≡ bindersIn before depth

@@ -5,8 +5,8 @@ ghost use Prim.Native.Nat.{_≤_};
 ghost use lib.ListN.{length};
 ghost use Rattle.term.specs.Choice.{isNone};
 ghost use Rattle.term.specs.Table.{wordIn, tableIn};
-ghost use Rattle.term.specs.Accepted.{mostNodes, accepted, indexOf};
-ghost use Rattle.term.specs.Walk.{RootIs, bindersIn, Room, Walked};
+ghost use Rattle.term.specs.Accepted.{mostNodes, accepted, binderIndex};
+ghost use Rattle.term.specs.Walk.{RootIs, bindersIn, ScopeRoom, PartWalked};
 
 // A node's word in its row, and 0 where there is none.
 fn word(table: &[u32], n: u32, node: u32, field: u32) -> u32
@@ -55,9 +55,9 @@ pub fn level(table: &[u32], n: u32, node: u32) -> u32
 }
 
 // Whether node b is among the first `depth` binders of the scope.
-fn around(scope: &[u32], depth: usize, b: u32) -> bool
+fn in_scope(scope: &[u32], depth: usize, b: u32) -> bool
     requires { ⌜ depth ≤ length (now scope) ⌝ }
-    ensures { λ r. ⌜ r ≡ not (isNone (indexOf b (bindersIn (now (scope .entry)) depth))) ⌝ }
+    ensures { λ r. ⌜ r ≡ not (isNone (binderIndex b (bindersIn (now (scope .entry)) depth))) ⌝ }
 {
     let mut d = depth;
     while 0 < d {
@@ -98,10 +98,11 @@ fn root(table: &[u32], n: u32, i: u32, p: u32, v: u32) -> u32
     if k == 1 { 1 } else { 0 }
 }
 
-// The node after the part whose root is node i, with parent p, level v and the first `depth` binders of the scope around it; 0 where there is no such part.
-fn after(table: &[u32], n: u32, scope: &mut [u32], depth: usize, i: u32, p: u32, v: u32) -> u32
-    requires { ⌜ Room (now scope) n depth i v ⌝ }
-    ensures { λ r. ⌜ Walked (tableIn (now (table .entry)) n) (now (scope .entry)) (now (scope .exit)) depth i p v r ⌝ }
+// The node after the part whose root is node i, with parent p, level v and the first `depth` binders of the scope around it; 0 where there
+// is no such part.
+fn part_end(table: &[u32], n: u32, scope: &mut [u32], depth: usize, i: u32, p: u32, v: u32) -> u32
+    requires { ⌜ ScopeRoom (now scope) n depth i v ⌝ }
+    ensures { λ r. ⌜ PartWalked (tableIn (now (table .entry)) n) (now (scope .entry)) (now (scope .exit)) depth i p v r ⌝ }
 {
     let k = root(table, n, i, p, v);
     if k == 0 {
@@ -109,20 +110,20 @@ fn after(table: &[u32], n: u32, scope: &mut [u32], depth: usize, i: u32, p: u32,
     }
     if k == 1 {
         let b = left(table, n, i);
-        return if around(scope, depth, b) { i + 1 } else { 0 };
+        return if in_scope(scope, depth, b) { i + 1 } else { 0 };
     }
     if k == 2 {
         scope[depth] = i;
-        return after(table, n, scope, depth + 1, i + 1, i, v);
+        return part_end(table, n, scope, depth + 1, i + 1, i, v);
     }
-    let j = after(table, n, scope, depth, i + 1, i, v);
+    let j = part_end(table, n, scope, depth, i + 1, i, v);
     if j == 0 {
         return 0;
     }
     if right(table, n, i) != j {
         return 0;
     }
-    after(table, n, scope, depth, j, i, v + 1)
+    part_end(table, n, scope, depth, j, i, v + 1)
 }
 
 // Whether the slice holds the table of a closed term of n nodes, from 1 to 3,000.
@@ -139,5 +140,5 @@ pub fn accepts(table: &[u32], n: u32) -> bool
         return false;
     }
     let mut scope = [0u32; 3000];
-    after(table, n, &mut scope, 0, 1, 0, 0) == n + 1
+    part_end(table, n, &mut scope, 0, 1, 0, 0) == n + 1
 }

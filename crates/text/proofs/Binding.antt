@@ -1,7 +1,7 @@
 -- A tree has a form without names exactly where it is closed, and that form is a closed term.
 use mathlib.Core.Path.{_≡_, refl, sym, _∙_, subst}
 use mathlib.Core.Logic.{_↔_}
-use mathlib.Core.Bool.{Bool, true, false, _&&_, false≢true}
+use mathlib.Core.Bool.{Bool, true, false, false≢true}
 use mathlib.Core.Option.{Option, none, some}
 use mathlib.Core.List.{List, [], _∷_}
 use Prim.Native.Nat.{ℕ, zero, suc, _<_}
@@ -10,21 +10,18 @@ use lib.ListN.{length}
 use lib.Dec.{eqb}
 use borrow.Author.Tests.{eqb-true, eq-eqb}
 use Rattle.term.specs.Term.{Term, var, lam, app, ClosedUnder}
+use Rattle.term.proofs.Choice.{each}
 use Rattle.text.specs.Tokens.{Name}
 use Rattle.text.specs.Grammar.{Tree, variable, binder, apply}
 use Rattle.text.specs.Binding.{sameName, indexOf, nameless, Innermost, Form, Among, here, there, ClosedIn}
 use Rattle.text.proofs.Each.{Each, each-some, each-bind}
-
-both : (s t : Bool) → (s && t) ≡ true → (s ≡ true) × (t ≡ true)
-both true t e = (refl, e)
-both false t e = (e, cc)
 
 pub same-name : (x y : Name) → (sameName x y ≡ true) ↔ (x ≡ y)
 same-name [] [] = (λ e. refl, λ e. refl)
 same-name [] (c ∷ y) = (λ e. cc, λ e. cc)
 same-name (b ∷ x) [] = (λ e. cc, λ e. cc)
 same-name (b ∷ x) (c ∷ y) = (
-  λ e. let h = both (eqb b c) (sameName x y) e in cc (eqb-true b c (h .0), same-name x y .0 (h .1)),
+  λ e. let h = each (eqb b c) (sameName x y) e in cc (eqb-true b c (h .0), same-name x y .0 (h .1)),
   λ e. rw (eq-eqb b c (cc)) (same-name x y .1 (cc)),
 )
 

@@ -174,27 +174,27 @@ module _ (text table : List ℕ) where
   six r (a-term s t m fits) =
       (λ e. absurd (omega arith), λ h. absurd (omega (arith, h .1 .2, ap size (one-meaning text t (h .1 .0) m (h .1 .1)))))
 
-  unchanged : (r : Read) → Finds text table r → (r .refusal ≡ 0 → ⊥) → (r .n ≡ 0) × (r .table ≡ table)
-  unchanged r (too-long long) h = (refl, refl)
-  unchanged r (foreign-byte few dirt) h = (refl, refl)
-  unchanged r (bad-name few clean bad) h = (refl, refl)
-  unchanged r (no-tree s underived) h = (refl, refl)
-  unchanged r (open-tree s t d unclosed) h = (refl, refl)
-  unchanged r (no-room s t m short) h = (refl, refl)
-  unchanged r (a-term s t m fits) h = absurd (h refl)
+  table-unchanged : (r : Read) → Finds text table r → (r .refusal ≡ 0 → ⊥) → (r .n ≡ 0) × (r .table ≡ table)
+  table-unchanged r (too-long long) h = (refl, refl)
+  table-unchanged r (foreign-byte few dirt) h = (refl, refl)
+  table-unchanged r (bad-name few clean bad) h = (refl, refl)
+  table-unchanged r (no-tree s underived) h = (refl, refl)
+  table-unchanged r (open-tree s t d unclosed) h = (refl, refl)
+  table-unchanged r (no-room s t m short) h = (refl, refl)
+  table-unchanged r (a-term s t m fits) h = absurd (h refl)
 
-  accepts : (r : Read) (n : ℕ) (words : List ℕ) → Finds text table r → (r ≡ record { n = n; refusal = 0; table = words }) ↔ Accepts text table n words
-  accepts r n words (too-long long) = (λ e. absurd (omega (arith, same-refusal e)), λ a. absurd (omega (arith, a .well-spelled .few-bytes)))
-  accepts r n words (foreign-byte few dirt) = (λ e. absurd (omega (arith, same-refusal e)), λ a. absurd (dirt (a .well-spelled .no-foreign)))
-  accepts r n words (bad-name few clean bad) = (λ e. absurd (omega (arith, same-refusal e)), λ a. absurd (bad (a .well-spelled .good-names)))
-  accepts r n words (no-tree s underived) = (λ e. absurd (omega (arith, same-refusal e)), λ a. absurd (underived (a .means .tree) (a .means .derives)))
-  accepts r n words (open-tree s t d unclosed) =
+  accepts-reading : (r : Read) (n : ℕ) (words : List ℕ) → Finds text table r → (r ≡ record { n = n; refusal = 0; table = words }) ↔ Accepts text table n words
+  accepts-reading r n words (too-long long) = (λ e. absurd (omega (arith, same-refusal e)), λ a. absurd (omega (arith, a .well-spelled .few-bytes)))
+  accepts-reading r n words (foreign-byte few dirt) = (λ e. absurd (omega (arith, same-refusal e)), λ a. absurd (dirt (a .well-spelled .no-foreign)))
+  accepts-reading r n words (bad-name few clean bad) = (λ e. absurd (omega (arith, same-refusal e)), λ a. absurd (bad (a .well-spelled .good-names)))
+  accepts-reading r n words (no-tree s underived) = (λ e. absurd (omega (arith, same-refusal e)), λ a. absurd (underived (a .means .tree) (a .means .derives)))
+  accepts-reading r n words (open-tree s t d unclosed) =
       (λ e. absurd (omega (arith, same-refusal e)), λ a. absurd (unclosed (only-closed text t (a .term) d (a .means))))
-  accepts r n words (no-room s t m short) = (
+  accepts-reading r n words (no-room s t m short) = (
     λ e. absurd (omega (arith, same-refusal e)),
     λ a. absurd (omega (arith, a .room, a .n-is, ap size (one-meaning text (a .term) t (a .means) m))),
   )
-  accepts r n words (a-term s t m fits) = (
+  accepts-reading r n words (a-term s t m fits) = (
     λ e.
         let n-is : n ≡ size t = sym (ap (λ (a : Read). a .n) e) in
         record {
@@ -226,8 +226,8 @@ five-exactly text table = five text table (readOf text table) (finds text table)
 pub six-exactly : SixExactly
 six-exactly text table = six text table (readOf text table) (finds text table)
 
-pub refused-unchanged : RefusedUnchanged
-refused-unchanged text table = unchanged text table (readOf text table) (finds text table)
+pub refused-reading-unchanged : RefusedUnchanged
+refused-reading-unchanged text table = table-unchanged text table (readOf text table) (finds text table)
 
 pub accepted-exactly : AcceptedExactly
-accepted-exactly text table n words = accepts text table (readOf text table) n words (finds text table)
+accepted-exactly text table n words = accepts-reading text table (readOf text table) n words (finds text table)

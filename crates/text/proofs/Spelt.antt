@@ -10,7 +10,7 @@ use lib.Dec.{eqb}
 use borrow.Author.Tests.{eqb-true}
 use Rattle.text.specs.Bytes.{lambda, dot, opening, closing}
 use Rattle.text.specs.Tokens.{Name, Token, mark, name}
-use Rattle.text.specs.Grammar.{Phrase, Atoms, atoms, _and_, Atom, named, bracketed, phraseTokens, atomsTokens, atomTokens}
+use Rattle.text.specs.Grammar.{Phrase, Atoms, Atom, named, bracketed, phraseTokens, atomsTokens, atomTokens}
 use Rattle.text.specs.Parse.{Parsed, afterMark, nameFirst, startsAtom, phraseAt, atomsAt, atomAt}
 use Rattle.text.proofs.Each.{Each, each-some, each-bind, each-if, each-choose}
 

@@ -101,9 +101,9 @@ pieces-exactly s ps = (
 )
 
 -- A text that does not begin with a byte of a name: a name in front of it ends there.
-abbrev pub Ends : List ℕ → Type 0
-Ends [] = Unit
-Ends (b ∷ s) = inName (classOf b) ≡ false
+abbrev pub NameEnds : List ℕ → Type 0
+NameEnds [] = Unit
+NameEnds (b ∷ s) = inName (classOf b) ≡ false
 
 putByte-ends : (c : Class) (b : ℕ) (ps : List Piece) → inName c ≡ false → NotName (putByte c b ps)
 putByte-ends letter b ps h = let z : _≡_ {A = ℕ} 0 1 = cc in absurd (omega arith)
@@ -112,7 +112,7 @@ putByte-ends blank b ps h = tt
 putByte-ends sign b ps h = tt
 putByte-ends foreign b ps h = tt
 
-ends-apart : (s : List ℕ) → Ends s → NotName (pieces s)
+ends-apart : (s : List ℕ) → NameEnds s → NotName (pieces s)
 unfolding pieces
 ends-apart [] h = tt
 ends-apart (b ∷ s) h = putByte-ends (classOf b) b (pieces s) h
@@ -128,5 +128,5 @@ tokens-blank b s e = ap tokensOf (pieces-gap b s (subst⁻¹ IsGap e tt))
 pub tokens-mark : (b : ℕ) (s : List ℕ) → classOf b ≡ sign → tokens (b ∷ s) ≡ mark b ∷ tokens s
 tokens-mark b s e = ap tokensOf (pieces-mark b s e)
 
-pub tokens-name : (x s : List ℕ) → 1 ≤ length x → AllInName x → Ends s → tokens (x ++ s) ≡ name x ∷ tokens s
+pub tokens-name : (x s : List ℕ) → 1 ≤ length x → AllInName x → NameEnds s → tokens (x ++ s) ≡ name x ∷ tokens s
 tokens-name x s l h e = ap tokensOf (pieces-name x s l h (ends-apart s e))

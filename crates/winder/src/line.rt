@@ -45,7 +45,7 @@ fn put_words(out: &mut [u8], at: usize, words: &[u32], len: u32) -> usize {
     end
 }
 
-fn letter(dir: Dir) -> u8 {
+fn dir_letter(dir: Dir) -> u8 {
     match dir {
         Dir::Down => b'd',
         Dir::Up => b'u',
@@ -59,12 +59,12 @@ fn put_place(out: &mut [u8], at: usize, s: Session) -> usize {
     let first = put(out, position, b' ');
     let node = put_number(out, first, s.node);
     let second = put(out, node, b' ');
-    let third = put(out, second, letter(dir));
+    let third = put(out, second, dir_letter(dir));
     put(out, third, b' ')
 }
 
 // A state: its place, L and the log, T and the tape, both from the top, one blank between.
-pub(crate) fn state(out: &mut [u8], at: usize, s: Session, log: &[u32], tape: &[u32]) -> usize
+pub(crate) fn put_state(out: &mut [u8], at: usize, s: Session, log: &[u32], tape: &[u32]) -> usize
     ensures { λ r. ⌜ Counts r (now (out .exit)) ⌝ }
 {
     let place = put_place(out, at, s);
@@ -89,29 +89,29 @@ pub(crate) fn is_spent(stop: Stop) -> bool {
 }
 
 // The last line: the stop's name and, for an answer, its node; a refusal's number.
-pub(crate) fn stop(out: &mut [u8], at: usize, x: Stop) -> usize
+pub(crate) fn put_stop(out: &mut [u8], at: usize, x: Stop) -> usize
     ensures { λ r. ⌜ Counts r (now (out .exit)) ⌝ }
 {
     match x {
-        Stop::Spent => named(out, at, b"spent"),
-        Stop::Answer(i) => numbered(out, at, b"answer ", i),
-        Stop::Jam => named(out, at, b"jam"),
-        Stop::Far => named(out, at, b"far"),
-        Stop::Start => named(out, at, b"start"),
-        Stop::LogFull => named(out, at, b"log full"),
-        Stop::TapeFull => named(out, at, b"tape full"),
-        Stop::Refused(k) => numbered(out, at, b"refused ", k),
+        Stop::Spent => put_named(out, at, b"spent"),
+        Stop::Answer(i) => put_numbered(out, at, b"answer ", i),
+        Stop::Jam => put_named(out, at, b"jam"),
+        Stop::Far => put_named(out, at, b"far"),
+        Stop::Start => put_named(out, at, b"start"),
+        Stop::LogFull => put_named(out, at, b"log full"),
+        Stop::TapeFull => put_named(out, at, b"tape full"),
+        Stop::Refused(k) => put_numbered(out, at, b"refused ", k),
     }
 }
 
-fn named(out: &mut [u8], at: usize, name: &[u8]) -> usize
+fn put_named(out: &mut [u8], at: usize, name: &[u8]) -> usize
     ensures { λ r. ⌜ Counts r (now (out .exit)) ⌝ }
 {
     let end = put_bytes(out, at, name);
     put(out, end, b'\n')
 }
 
-fn numbered(out: &mut [u8], at: usize, name: &[u8], n: u32) -> usize
+fn put_numbered(out: &mut [u8], at: usize, name: &[u8], n: u32) -> usize
     ensures { λ r. ⌜ Counts r (now (out .exit)) ⌝ }
 {
     let word = put_bytes(out, at, name);

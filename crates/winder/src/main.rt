@@ -16,38 +16,38 @@ fn main() {
     let mut table = [0u32; 15000];
     let r = reader::read(&bytes[..got], &mut table);
     if r.refusal != 0 {
-        refused(r.refusal);
+        print_refusal(r.refusal);
         return;
     }
     let mut log = [0u32; 1024];
     let mut tape = [0u32; 1024];
     let o = open(&table, r.n, &mut log, &mut tape);
     if o.refusal != 0 {
-        refused(o.refusal);
+        print_refusal(o.refusal);
         return;
     }
     let first = o.session;
-    walk(&table, r.n, first, &mut log, &mut tape);
+    print_walk(&table, r.n, first, &mut log, &mut tape);
 }
 
-fn refused(number: u32) {
+fn print_refusal(number: u32) {
     let mut out = [0u8; 64];
-    last(&mut out, 0, Stop::Refused(number));
+    print_last(&mut out, 0, Stop::Refused(number));
 }
 
 // At most 10,000 steps, a state and a step at a time. A write that fails ends the walk.
-fn walk(table: &[u32], n: u32, first: Session, log: &mut [u32], tape: &mut [u32]) {
+fn print_walk(table: &[u32], n: u32, first: Session, log: &mut [u32], tape: &mut [u32]) {
     let mut out = [0u8; 65536];
     let mut s = first;
     let mut at = 0;
     let mut left: u32 = 10000;
     while 0 < left {
-        at = line::state(&mut out, at, s, log, tape);
+        at = line::put_state(&mut out, at, s, log, tape);
         let o = forward(table, n, s, log, tape, 1);
         let stop = o.stop;
         let next = o.session;
         if !line::is_spent(stop) {
-            last(&mut out, at, stop);
+            print_last(&mut out, at, stop);
             return;
         }
         s = next;
@@ -59,12 +59,12 @@ fn walk(table: &[u32], n: u32, first: Session, log: &mut [u32], tape: &mut [u32]
         }
         left -= 1;
     }
-    at = line::state(&mut out, at, s, log, tape);
-    last(&mut out, at, Stop::Spent);
+    at = line::put_state(&mut out, at, s, log, tape);
+    print_last(&mut out, at, Stop::Spent);
 }
 
 // The last line, and everything that still waits.
-fn last(out: &mut [u8], at: usize, stop: Stop) {
-    let end = line::stop(out, at, stop);
+fn print_last(out: &mut [u8], at: usize, stop: Stop) {
+    let end = line::put_stop(out, at, stop);
     let _whole = io::write_all(1, &out[..end]);
 }

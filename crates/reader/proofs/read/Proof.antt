@@ -31,11 +31,11 @@ code-of-requires c κs =
 enum-known-coded : tie.Need-enum-known-coded
 enum-known-coded c = search needs
 
-slice-aggregate-answer : tie.Need-slice-aggregate-answer
-slice-aggregate-answer c = search needs
+slice-aggregate-answer-for : tie.Need-slice-aggregate-answer-for
+slice-aggregate-answer-for c = search needs
 
-answer-requires : tie.Need-answer-requires
-answer-requires c κs =
+answer-for-requires : tie.Need-answer-for-requires
+answer-for-requires c κs =
     let k = rw (c .before .before .before .coded .given .1) at (c .before .before .before .before .before .before .code-of .ensures) in
     (phraseTree (k .phrase), k .in-code)
 
@@ -52,7 +52,7 @@ returns-2 : tie.Need-returns-2
 returns-2 c =
     let a = c .before .before .before .before .before .before .before .before .before .before .before .before .before .before .before .args in
     let k = rw (c .before .before .before .before .before .before .coded .given .1) at (c .before .before .before .before .before .before .before .before .before .code-of .ensures) in
-    c .before .before .answer .ensures (phraseTree (k .phrase)) (k .in-code)
+    c .before .before .answer-for .ensures (phraseTree (k .phrase)) (k .in-code)
     ∙ sym (a-phrase (a .text .now) (a .table .now) (sym (c .before .before .before .before .before .before .before .before .before .before .before .if1 .left) ∙ c .before .before .before .before .before .before .before .before .before .before .before .before .spelling-number .ensures) (k .phrase) (k .is))
 
 returns-3 : tie.Need-returns-3
@@ -71,8 +71,8 @@ read-spec =
     slice-aggregate-code-of
     code-of-requires
     enum-known-coded
-    slice-aggregate-answer
-    answer-requires
+    slice-aggregate-answer-for
+    answer-for-requires
     enum-told
     refused-requires-2
     same-length

@@ -1,21 +1,21 @@
--- A call forward or back: refused by its number, or wound.
+-- A call by its number: refused, or wound.
 use mathlib.Core.Path.{_≡_, sym, _∙_}
 use Rattle.calls.specs.Calls.{callNumber}
-use Rattle.session.specs.Types.{lent, numberMeant}
+use Rattle.session.specs.Types.{wayMeant, lent, numberMeant}
 use Rattle.session.proofs.Calls.{call-refused, call-ready, call-winds}
 use borrow.Author.Needs.{needs}
 use Rattle.session.proofs.call.Statement.{statement}
 use Rattle.session.proofs.call.Tie as tie
 
--- past the test no number refuses the call
-unrefused : (e : tie.Else1) → (let a = e .before .before .before .before .before .before .before .args in 0 ≡ numberMeant (callNumber (lent (a .table .now) (a .n) (a .session) (a .log .now) (a .tape .now))))
-unrefused e = sym (e .if1 .left) ∙ e .before .call-number .ensures
+-- past the test the number is 0
+unrefused : (u : tie.Else1) → (let a = u .before .before .before .before .before .before .before .args in 0 ≡ numberMeant (callNumber (lent (a .table .now) (a .n) (a .session) (a .log .now) (a .tape .now))))
+unrefused u = sym (u .if1 .left) ∙ u .before .call-number .ensures
 
 call-number-requires : tie.Need-call-number-requires
 call-number-requires c κs = search needs
 
-refused-requires : tie.Need-refused-requires
-refused-requires c κs = search needs
+refused-outcome-requires : tie.Need-refused-outcome-requires
+refused-outcome-requires c κs = search needs
 
 same-length : tie.Need-same-length
 same-length c = search needs
@@ -27,7 +27,8 @@ returns : tie.Need-returns
 returns c =
     let a = c .before .before .before .before .before .before .before .before .args in
     let k = c .before .before .call-number in
-    c .refused .ensures (a .table .now) (a .n) (a .log .now) (a .tape .now) ∙ sym (call-refused (a .table .now) (a .n) (a .session) (a .log .now) (a .tape .now) (a .way) (k .result) (a .count) (k .ensures) (c .before .if1 .taken))
+    c .refused-outcome .ensures (a .table .now) (a .n) (a .log .now) (a .tape .now)
+    ∙ sym (call-refused (a .table .now) (a .n) (a .session) (a .log .now) (a .tape .now) (wayMeant (a .way)) (k .result) (a .count) (k .ensures) (c .before .if1 .taken))
 
 wind-requires : tie.Need-wind-requires
 wind-requires c κs = let a = c .before .before .before .before .before .before .before .before .before .args in call-ready (a .table .now) (a .n) (a .session) (a .log .now) (a .tape .now) (unrefused (c .before .before))
@@ -43,14 +44,14 @@ returns-2 c =
     let a = c .before .before .before .before .before .before .before .before .before .before .before .before .before .before .args in
     let e = unrefused (c .before .before .before .before .before .before .before) in
     let r = call-ready (a .table .now) (a .n) (a .session) (a .log .now) (a .tape .now) e in
-    c .before .before .before .before .wind .ensures (r .state) (r .stands) ∙ sym (call-winds (a .table .now) (a .n) (a .session) (a .log .now) (a .tape .now) e (a .way) (a .count))
+    c .before .before .before .before .wind .ensures (r .state) (r .token) ∙ sym (call-winds (a .table .now) (a .n) (a .session) (a .log .now) (a .tape .now) e (wayMeant (a .way)) (a .count))
 
 pub call-spec : {M : Type 1} → statement M
 call-spec =
     tie.close
     (tie.spec
     call-number-requires
-    refused-requires
+    refused-outcome-requires
     same-length
     same-length-2
     returns

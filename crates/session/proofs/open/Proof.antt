@@ -2,14 +2,14 @@
 use mathlib.Core.Path.{sym, ap₂, _∙_}
 use borrow.Author.Needs.{needs}
 use Rattle.session.specs.declared.Dir.the-variants.{Down}
-use Rattle.session.specs.Types.{opened}
-use Rattle.calls.specs.Calls.{openNumber}
-use Rattle.session.proofs.Numbers.{number-some, open-none, open-refused, open-begun}
+use Rattle.session.specs.Types.{openingMeant}
+use Rattle.calls.specs.Calls.{lentNumber}
+use Rattle.session.proofs.Numbers.{number-some, lent-none, open-refused, open-begun}
 use Rattle.session.proofs.open.Statement.{statement}
 use Rattle.session.proofs.open.Tie as tie
 
-open-number-requires : tie.Need-open-number-requires
-open-number-requires c κs = search needs
+lent-number-requires : tie.Need-lent-number-requires
+lent-number-requires c κs = search needs
 
 same-length : tie.Need-same-length
 same-length c = search needs
@@ -20,8 +20,8 @@ same-length-2 c = search needs
 returns : tie.Need-returns
 returns c =
     let a = c .before .before .before .before .before .before .before .args in
-    let n = c .before .open-number in
-    sym (open-refused (a .table .now) (a .n) (a .log .now) (a .tape .now) (n .result) (number-some (openNumber (a .table .now) (a .n) (a .log .now) (a .tape .now)) (n .result) (n .ensures) (c .if1 .taken)))
+    let n = c .before .lent-number in
+    sym (open-refused (a .table .now) (a .n) (a .log .now) (a .tape .now) (n .result) (number-some (lentNumber (a .table .now) (a .n) (a .log .now) (a .tape .now)) (n .result) (n .ensures) (c .if1 .taken)))
 
 clear-requires : tie.Need-clear-requires
 clear-requires c κs = search needs
@@ -39,9 +39,9 @@ returns-2 : tie.Need-returns-2
 returns-2 c =
     let a = c .before .before .before .before .before .before .before .before .before .before .before .before .before .before .before .args in
     let u = c .before .before .before .before .before .before .before .before in
-    let n = u .before .open-number in
-    let e = open-begun (a .table .now) (a .n) (a .log .now) (a .tape .now) (open-none (a .table .now) (a .n) (a .log .now) (a .tape .now) (sym (u .if1 .left) ∙ n .ensures)) in
-    ap₂ (λ ls ts. opened (record { session = record { node = 1; dir = Down; position = 0; «log_len» = 0; «tape_len» = 0 }; refusal = 0 }) ls ts)
+    let n = u .before .lent-number in
+    let e = open-begun (a .table .now) (a .n) (a .log .now) (a .tape .now) (lent-none (a .table .now) (a .n) (a .log .now) (a .tape .now) (sym (u .if1 .left) ∙ n .ensures)) in
+    ap₂ (λ ls ts. openingMeant (record { session = record { node = 1; dir = Down; position = 0; «log_len» = 0; «tape_len» = 0 }; refusal = 0 }) ls ts)
     (c .before .before .before .before .before .before .clear .ensures)
     (c .before .before .clear2 .ensures)
     ∙ sym e
@@ -50,7 +50,7 @@ pub open-spec : {M : Type 1} → statement M
 open-spec =
     tie.close
     (tie.spec
-    open-number-requires
+    lent-number-requires
     same-length
     same-length-2
     returns

@@ -19,11 +19,11 @@ mul-if3 c = search needs
 returns-3 : tie.Need-returns-3
 returns-3 c = let a = c .before .before .before .before .args in sym (refuses (a .table .now) (a .n) (λ A. omega (arith, A .long)))
 
-slice-aggregate-after : tie.Need-slice-aggregate-after
-slice-aggregate-after c = search needs
+slice-aggregate-part-end : tie.Need-slice-aggregate-part-end
+slice-aggregate-part-end c = search needs
 
-after-requires : tie.Need-after-requires
-after-requires c κs = search needs
+part-end-requires : tie.Need-part-end-requires
+part-end-requires c κs = search needs
 
 add-result : tie.Need-add-result
 add-result c = search needs
@@ -31,7 +31,7 @@ add-result c = search needs
 returns-4 : tie.Need-returns-4
 returns-4 c =
     let a = c .before .before .before .before .before .before .before .args in
-    walked-whole (a .table .now) _ _ (a .n) (omega arith) (omega arith) (omega arith) (c .before .after .result) (c .before .after .ensures)
+    walked-whole (a .table .now) _ _ (a .n) (omega arith) (omega arith) (omega arith) (c .before .part-end .result) (c .before .part-end .ensures)
 
 pub accepts-spec : {M : Type 1} → statement M
-accepts-spec = tie.close (tie.spec returns returns-2 mul-if3 returns-3 slice-aggregate-after after-requires add-result returns-4)
+accepts-spec = tie.close (tie.spec returns returns-2 mul-if3 returns-3 slice-aggregate-part-end part-end-requires add-result returns-4)

@@ -5,7 +5,7 @@ use borrow.Author.Needs.{needs}
 use native.Mathlib.Omega.{arith}
 use Rattle.term.specs.Table.{tableIn}
 use Rattle.term.specs.Walk.{Row}
-use Rattle.term.proofs.Table.{beyond}
+use Rattle.term.proofs.Table.{nodes-are, row-beyond}
 use Rattle.term.proofs.Walk.{wrong-parent, wrong-level, wrong-kind, wrong-left, wrong-right, is-application, is-abstraction, is-variable}
 use Rattle.term.proofs.root.Statement.{statement}
 use Rattle.term.proofs.root.Tie as tie
@@ -24,13 +24,12 @@ row c = record {
 }
 
 there : (c : tie.After-right) → start c .args .i ≤ tableIn (start c .args .table .now) (start c .args .n) .nodes
-unfolding tableIn
-there c = c .before .before .before .before .before .before .before .if1 .left
+there c = rw nodes-are (c .before .before .before .before .before .before .before .if1 .left)
 
 returns : tie.Need-returns
 returns c =
     let a = c .before .before .args in
-    let e : tableIn (a .table .now) (a .n) .kind (a .i) ≡ 0 = beyond (a .table .now) (a .n) (a .i) (c .if1 .taken) .kind-is in
+    let e : tableIn (a .table .now) (a .n) .kind (a .i) ≡ 0 = row-beyond (a .table .now) (a .n) (a .i) (c .if1 .taken) .kind-is in
     wrong-kind (tableIn (a .table .now) (a .n)) (a .i) (a .p) (a .v) (omega arith) (omega arith) (omega arith)
 
 parent-requires : tie.Need-parent-requires
@@ -91,21 +90,5 @@ returns-10 c =
 pub root-spec : {M : Type 1} → statement M
 root-spec =
     tie.close
-    (tie.spec
-    returns
-    parent-requires
-    returns-2
-    level-requires
-    returns-3
-    kind-requires
-    left-requires
-    right-requires
-    add-if5
-    returns-4
-    returns-5
-    returns-6
-    add-if8
-    returns-7
-    returns-8
-    returns-9
-    returns-10)
+    (tie.spec returns parent-requires returns-2 level-requires returns-3 kind-requires left-requires right-requires
+    add-if5 returns-4 returns-5 returns-6 add-if8 returns-7 returns-8 returns-9 returns-10)

@@ -43,14 +43,4 @@ returns-4 c =
 pub word-spec : {M : Type 1} → statement M
 word-spec =
     tie.close
-    (tie.spec
-    returns
-    sub-at
-    mul-at
-    add-at
-    mul-if2
-    mul-result
-    shared-slice-read-result
-    returns-2
-    returns-3
-    returns-4)
+    (tie.spec returns sub-at mul-at add-at mul-if2 mul-result shared-slice-read-result returns-2 returns-3 returns-4)

@@ -10,22 +10,22 @@ use Rattle.text.specs.Bytes.{letter, digit, sign, foreign, classOf}
 use Rattle.reader.proofs.bytes.class_of.Statement.{statement}
 use Rattle.reader.proofs.bytes.class_of.Tie as tie
 
-within : (low high b : ℕ) → low ≤ b → b ≤ high → (leb low b && leb b high) ≡ true
-within low high b l h = rw (le-leb low b l, le-leb b high h)
+in-range : (low high b : ℕ) → low ≤ b → b ≤ high → (leb low b && leb b high) ≡ true
+in-range low high b l h = rw (le-leb low b l, le-leb b high h)
 
-under : (low high b : ℕ) → b < low → (leb low b && leb b high) ≡ false
-under low high b h = rw (lt-leb low b h)
+below-range : (low high b : ℕ) → b < low → (leb low b && leb b high) ≡ false
+below-range low high b h = rw (lt-leb low b h)
 
-over : (low high b : ℕ) → low ≤ b → high < b → (leb low b && leb b high) ≡ false
-over low high b l h = rw (le-leb low b l, lt-leb b high h)
+above-range : (low high b : ℕ) → low ≤ b → high < b → (leb low b && leb b high) ≡ false
+above-range low high b l h = rw (le-leb low b l, lt-leb b high h)
 
 a-letter : (b : ℕ) → 97 ≤ b → b < 123 → letter ≡ classOf b
 unfolding classOf
-a-letter b l h = rw (within 97 122 b l (omega arith))
+a-letter b l h = rw (in-range 97 122 b l (omega arith))
 
 a-digit : (b : ℕ) → 48 ≤ b → b < 58 → digit ≡ classOf b
 unfolding classOf
-a-digit b l h = rw (under 97 122 b (omega arith), within 48 57 b l (omega arith))
+a-digit b l h = rw (below-range 97 122 b (omega arith), in-range 48 57 b l (omega arith))
 
 a-bracket : (b : ℕ) → 40 ≤ b → b < 42 → sign ≡ classOf b
 unfolding classOf
@@ -39,10 +39,10 @@ a-bracket b l h = by-test (eqb b 40) refl
         sym (ap classOf closes)
 
 -- none of the single bytes, and in neither range
-neither : (b : ℕ) → ((b ≡ 10) ⊎ (b ≡ 32) → ⊥) → ((b ≡ 46) ⊎ (b ≡ 92) → ⊥) → (b ≡ 40 → ⊥) → (b ≡ 41 → ⊥)
+no-class : (b : ℕ) → ((b ≡ 10) ⊎ (b ≡ 32) → ⊥) → ((b ≡ 46) ⊎ (b ≡ 92) → ⊥) → (b ≡ 40 → ⊥) → (b ≡ 41 → ⊥)
     → (leb 97 b && leb b 122) ≡ false → (leb 48 b && leb b 57) ≡ false → foreign ≡ classOf b
 unfolding classOf
-neither b blanks signs opening closing l d =
+no-class b blanks signs opening closing l d =
     rw (
       l,
       d,
@@ -68,25 +68,25 @@ returns-4 : tie.Need-returns-4
 returns-4 c =
     let b = c .before .before .args .b in
     let rest = c .before .match .rest in
-    neither b (rest .0 .1) (rest .1) (omega arith) (omega arith) (under 97 122 b (omega arith)) (under 48 57 b (omega arith))
+    no-class b (rest .0 .1) (rest .1) (omega arith) (omega arith) (below-range 97 122 b (omega arith)) (below-range 48 57 b (omega arith))
 
 returns-5 : tie.Need-returns-5
 returns-5 c =
     let b = c .before .before .before .before .args .b in
     let rest = c .before .before .before .match .rest in
-    neither b (rest .0 .1) (rest .1) (omega arith) (omega arith) (under 97 122 b (omega arith)) (under 48 57 b (omega arith))
+    no-class b (rest .0 .1) (rest .1) (omega arith) (omega arith) (below-range 97 122 b (omega arith)) (below-range 48 57 b (omega arith))
 
 returns-6 : tie.Need-returns-6
 returns-6 c =
     let b = c .before .before .before .before .before .before .args .b in
     let rest = c .before .before .before .before .before .match .rest in
-    neither b (rest .0 .1) (rest .1) (omega arith) (omega arith) (under 97 122 b (omega arith)) (over 48 57 b (omega arith) (omega arith))
+    no-class b (rest .0 .1) (rest .1) (omega arith) (omega arith) (below-range 97 122 b (omega arith)) (above-range 48 57 b (omega arith) (omega arith))
 
 returns-7 : tie.Need-returns-7
 returns-7 c =
     let b = c .before .before .before .before .before .before .before .args .b in
     let rest = c .before .before .before .before .before .before .match .rest in
-    neither b (rest .0 .1) (rest .1) (omega arith) (omega arith) (over 97 122 b (omega arith) (omega arith)) (over 48 57 b (omega arith) (omega arith))
+    no-class b (rest .0 .1) (rest .1) (omega arith) (omega arith) (above-range 97 122 b (omega arith) (omega arith)) (above-range 48 57 b (omega arith) (omega arith))
 
 returns-8 : tie.Need-returns-8
 unfolding classOf

@@ -5,7 +5,7 @@ use native.Mathlib.Omega.{arith}
 use borrow.Author.Needs.{needs}
 use lib.ListN.{length, replicate, length-set}
 use lib.Seq.{sets, slice}
-use Rattle.reader.proofs.Moved.{up-none, up-more, marks-more, marks-done}
+use Rattle.reader.proofs.Moved.{moved-none, moved-more, marks-more, marks-done}
 use Rattle.reader.proofs.grammar.marks.Statement.{statement}
 use Rattle.reader.proofs.grammar.marks.Tie as tie
 
@@ -22,7 +22,7 @@ abbrev μ-loop2 : tie.MeasureT-loop2
 μ-loop2 out₀ first end by i k₀ out k = by - k
 
 loop-holds : tie.Need-loop-holds Inv-loop μ-loop Inv-loop2 μ-loop2
-loop-holds c = (c .pre .0, omega arith, refl, up-none (c .args .out .now) (c .args .end) (c .args .by))
+loop-holds c = (c .pre .0, omega arith, refl, moved-none (c .args .out .now) (c .args .end) (c .args .by))
 
 sub-i : tie.Need-sub-i Inv-loop μ-loop Inv-loop2 μ-loop2
 sub-i c = omega arith
@@ -50,7 +50,7 @@ loop-again c =
     let l = c .before .before .loop in
     let a = c .before .before .before .args in
     let e : suc (l .i - 1) ≡ l .i = omega arith in
-    (omega arith, omega arith, rw length-set (l .inv .2), up-more (a .out .now) (l .out) (l .i - 1) (a .end) (a .by) (omega arith) (omega arith) (rw e (l .inv .3)))
+    (omega arith, omega arith, rw length-set (l .inv .2), moved-more (a .out .now) (l .out) (l .i - 1) (a .end) (a .by) (omega arith) (omega arith) (rw e (l .inv .3)))
 
 loop2-holds : tie.Need-loop2-holds Inv-loop μ-loop Inv-loop2 μ-loop2
 loop2-holds c = (omega arith, refl, refl)

@@ -3,7 +3,7 @@ use Prim.Native.Nat.{ℕ, _<_, _-_}
 use mathlib.Core.Path.{_∙_}
 use native.Mathlib.Omega.{arith}
 use lib.ListN.{length, length-set}
-use Rattle.reader.proofs.Parts.{Enough, enough, ready-as, body-ready, parts-ready, index-ready}
+use Rattle.reader.proofs.Parts.{NodeRoom, node-room, layable-as, body-layable, parts-layable, index-layable}
 use Rattle.reader.proofs.Laid.{lam-laid, var-laid, app-laid}
 use borrow.Fn.Kinds.{In}
 use borrow.Fn.PlainCycle.{Measures, is, falls, and}
@@ -30,8 +30,8 @@ module _ (t : ℕ) where
   abbrev Start : Type 0
   Start = rows-lts.Start claims (rows-at t) rows.Post
 
-  here : (s : Start) → Enough (s .args .code .now) (s .args .laid) (s .args .depth) (length (s .args .scope .now)) (length (s .args .table .now))
-  here s = enough _ _ _ _ _ (s .pre .1 .1 .0) (s .pre .1 .1 .1)
+  here : (s : Start) → NodeRoom (s .args .code .now) (s .args .laid) (s .args .depth) (length (s .args .scope .now)) (length (s .args .table .now))
+  here s = node-room _ _ _ _ _ (s .pre .1 .1 .0) (s .pre .1 .1 .1)
 
   mul-word : rows-lts.Need-mul-word claims (rows-at t) rows.Post
   mul-word c = omega (arith, here (c .before .before .before))
@@ -60,9 +60,9 @@ module _ (t : ℕ) where
   rows-requires : rows-lts.Need-rows-requires claims (rows-at t) rows.Post
   rows-requires c κs =
       let s = c .before .before .before .before .before .before .before .before .before .before .before in
-      let x = body-ready _ _ _ _ _ (s .pre .1 .1 .0) (s .pre .1 .1 .1) (c .before .before .before .before .before .before .if1 .taken) in
+      let x = body-layable _ _ _ _ _ (s .pre .1 .1 .0) (s .pre .1 .1 .1) (c .before .before .before .before .before .before .if1 .taken) in
       let h = here s in
-      (omega (arith, h, s .pre .0), (omega (arith, s .pre), (x .0, ready-as (simp length-set) (omega (arith, c .before .before .before .before .put-row .kept)) (x .2))))
+      (omega (arith, h, s .pre .0), (omega (arith, s .pre), (x .0, layable-as (simp length-set) (omega (arith, c .before .before .before .before .put-row .kept)) (x .2))))
 
   add-inner : rows-lts.Need-add-inner claims (rows-at t) rows.Post
   add-inner c = omega (arith, here (c .before .before .before .before .before .before), c .before .before .before .before .before .before .pre)
@@ -70,17 +70,17 @@ module _ (t : ℕ) where
   rows-requires-2 : rows-lts.Need-rows-requires-2 claims (rows-at t) rows.Post
   rows-requires-2 c κs =
       let s = c .before .before .before .before .before .before .before .before in
-      let x = parts-ready _ _ _ _ _ (s .pre .1 .1 .0) (s .pre .1 .1 .1) (c .before .before .if2 .taken) in
+      let x = parts-layable _ _ _ _ _ (s .pre .1 .1 .0) (s .pre .1 .1 .1) (c .before .before .if2 .taken) in
       let h = here s in
-      (omega (arith, h, s .pre .0), (omega (arith, s .pre), (x .function, x .function-ready)))
+      (omega (arith, h, s .pre .0), (omega (arith, s .pre), (x .function, x .function-layable)))
 
   rows-requires-3 : rows-lts.Need-rows-requires-3 claims (rows-at t) rows.Post
   rows-requires-3 c κs =
       let s = c .before .before .before .before .before .before .before .before .before .before .before .before .before .before .before in
-      let x = parts-ready _ _ _ _ _ (s .pre .1 .1 .0) (s .pre .1 .1 .1) (c .before .before .before .before .before .before .before .before .before .if2 .taken) in
+      let x = parts-layable _ _ _ _ _ (s .pre .1 .1 .0) (s .pre .1 .1 .1) (c .before .before .before .before .before .before .before .before .before .if2 .taken) in
       let h = here s in
-      let n = c .before .before .before .before .before .before .rows2 .ensures (x .function) (x .function-ready) .next in
-      (omega (arith, h, s .pre .0, n), (omega (arith, s .pre, n), (x .argument, ready-as (omega (arith, c .before .before .before .before .before .before .rows2 .kept)) (omega (arith, c .before .before .before .before .before .before .rows2 .kept)) (x .argument-ready _ n))))
+      let n = c .before .before .before .before .before .before .rows2 .ensures (x .function) (x .function-layable) .next in
+      (omega (arith, h, s .pre .0, n), (omega (arith, s .pre, n), (x .argument, layable-as (omega (arith, c .before .before .before .before .before .before .rows2 .kept)) (omega (arith, c .before .before .before .before .before .before .rows2 .kept)) (x .argument-layable _ n))))
 
   add-put-row-2 : rows-lts.Need-add-put-row-2 claims (rows-at t) rows.Post
   add-put-row-2 c = omega (arith, here (c .before .before .before .before .before .before .before .before .before .before .before .before .before .before .before .before .before .before .before .before .before))
@@ -88,8 +88,8 @@ module _ (t : ℕ) where
   add-put-row-3 : rows-lts.Need-add-put-row-3 claims (rows-at t) rows.Post
   add-put-row-3 c =
       let s = c .before .before .before .before .before .before .before .before .before .before .before .before .before .before .before .before .before .before .before .before .before in
-      let x = parts-ready _ _ _ _ _ (s .pre .1 .1 .0) (s .pre .1 .1 .1) (c .before .before .before .before .before .before .before .before .before .before .before .before .before .before .before .if2 .taken) in
-      omega (arith, c .before .before .before .before .before .before .before .before .before .before .before .before .rows2 .ensures (x .function) (x .function-ready) .next, x .function-ready)
+      let x = parts-layable _ _ _ _ _ (s .pre .1 .1 .0) (s .pre .1 .1 .1) (c .before .before .before .before .before .before .before .before .before .before .before .before .before .before .before .if2 .taken) in
+      omega (arith, c .before .before .before .before .before .before .before .before .before .before .before .before .rows2 .ensures (x .function) (x .function-layable) .next, x .function-layable)
 
   put-row-requires-2 : rows-lts.Need-put-row-requires-2 claims (rows-at t) rows.Post
   put-row-requires-2 c κs = omega (arith, here (c .before .before .before .before .before .before .before .before .before .before .before .before .before .before .before .before .before .before .before .before .before), c .before .before .before .before .before .before .before .before .before .before .before .before .rows2 .kept, c .before .before .before .before .before .rows3 .kept)
@@ -98,16 +98,16 @@ module _ (t : ℕ) where
   add-binder c = omega (arith, here (c .before .before .before .before .before .before), c .before .before .before .before .before .before .good)
 
   cast-binder : rows-lts.Need-cast-binder claims (rows-at t) rows.Post
-  cast-binder c = let x = index-ready _ _ _ _ _ (c .before .before .before .before .before .before .pre .1 .1 .0) (c .before .before .before .before .before .before .pre .1 .1 .1) (c .before .if1 .left) (c .if2 .left) in omega (arith, x .2, x .3, c .before .before .before .before .before .before .good, here (c .before .before .before .before .before .before))
+  cast-binder c = let x = index-layable _ _ _ _ _ (c .before .before .before .before .before .before .pre .1 .1 .0) (c .before .before .before .before .before .before .pre .1 .1 .1) (c .before .if1 .left) (c .if2 .left) in omega (arith, x .2, x .3, c .before .before .before .before .before .before .good, here (c .before .before .before .before .before .before))
 
   sub-binder : rows-lts.Need-sub-binder claims (rows-at t) rows.Post
-  sub-binder c = let x = index-ready _ _ _ _ _ (c .before .before .before .before .before .before .pre .1 .1 .0) (c .before .before .before .before .before .before .pre .1 .1 .1) (c .before .if1 .left) (c .if2 .left) in omega (arith, x .2, x .3)
+  sub-binder c = let x = index-layable _ _ _ _ _ (c .before .before .before .before .before .before .pre .1 .1 .0) (c .before .before .before .before .before .before .pre .1 .1 .1) (c .before .if1 .left) (c .if2 .left) in omega (arith, x .2, x .3)
 
   mul-binder : rows-lts.Need-mul-binder claims (rows-at t) rows.Post
-  mul-binder c = let x = index-ready _ _ _ _ _ (c .before .before .before .before .before .before .pre .1 .1 .0) (c .before .before .before .before .before .before .pre .1 .1 .1) (c .before .if1 .left) (c .if2 .left) in omega (arith, x .2, x .3, c .before .before .before .before .before .before .good, here (c .before .before .before .before .before .before))
+  mul-binder c = let x = index-layable _ _ _ _ _ (c .before .before .before .before .before .before .pre .1 .1 .0) (c .before .before .before .before .before .before .pre .1 .1 .1) (c .before .if1 .left) (c .if2 .left) in omega (arith, x .2, x .3, c .before .before .before .before .before .before .good, here (c .before .before .before .before .before .before))
 
   slice-read-binder : rows-lts.Need-slice-read-binder claims (rows-at t) rows.Post
-  slice-read-binder c = let x = index-ready _ _ _ _ _ (c .before .before .before .before .before .before .before .pre .1 .1 .0) (c .before .before .before .before .before .before .before .pre .1 .1 .1) (c .before .before .if1 .left) (c .before .if2 .left) in omega (arith, x .2, x .3, here (c .before .before .before .before .before .before .before))
+  slice-read-binder c = let x = index-layable _ _ _ _ _ (c .before .before .before .before .before .before .before .pre .1 .1 .0) (c .before .before .before .before .before .before .before .pre .1 .1 .1) (c .before .before .if1 .left) (c .before .if2 .left) in omega (arith, x .2, x .3, here (c .before .before .before .before .before .before .before))
 
   put-row-requires-3 : rows-lts.Need-put-row-requires-3 claims (rows-at t) rows.Post
   put-row-requires-3 c κs = omega (arith, here (c .before .before .before .before .before .before .before .before))

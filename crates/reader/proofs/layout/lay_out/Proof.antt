@@ -1,7 +1,7 @@
 -- `lay_out` lays out a whole term, from node 1 on.
 use borrow.Author.Needs.{needs}
 use native.Mathlib.Omega.{arith}
-use Rattle.reader.proofs.Laid.{whole-ready, whole-laid}
+use Rattle.reader.proofs.Laid.{whole-layable, whole-laid}
 use Rattle.reader.proofs.layout.lay_out.Statement.{statement}
 use Rattle.reader.proofs.layout.lay_out.Tie as tie
 
@@ -9,13 +9,13 @@ slice-aggregate-rows : tie.Need-slice-aggregate-rows
 slice-aggregate-rows c = search needs
 
 rows-requires : tie.Need-rows-requires
-rows-requires c κs = let w = c .before .before .before .before .pre in (omega arith, (w .0, whole-ready (w .1)))
+rows-requires c κs = let w = c .before .before .before .before .pre in (omega arith, (w .0, whole-layable (w .1)))
 
 same-length : tie.Need-same-length
 same-length c = search needs
 
 returns : tie.Need-returns
-returns c = λ t w. whole-laid _ (c .before .before .before .before .before .before .before .before .args .table .now) _ _ _ t (w .room) (c .before .before .before .rows .ensures t (whole-ready w))
+returns c = λ t w. whole-laid _ (c .before .before .before .before .before .before .before .before .args .table .now) _ _ _ t (w .room) (c .before .before .before .rows .ensures t (whole-layable w))
 
 pub lay-out-spec : {M : Type 1} → statement M
 lay-out-spec = tie.close (tie.spec slice-aggregate-rows rows-requires same-length returns)

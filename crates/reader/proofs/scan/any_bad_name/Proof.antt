@@ -6,7 +6,7 @@ use borrow.Author.Needs.{needs}
 use lib.ListN.{length, drop, length-drop}
 use Rattle.text.specs.Tokens.{tokens, anyBadName}
 use Rattle.reader.proofs.Scanning.{name-fits}
-use Rattle.reader.proofs.Refusing.{name-here, no-name-here, none-bad}
+use Rattle.reader.proofs.Refusing.{name-here, no-name-here, end-not-bad}
 use Rattle.reader.proofs.scan.any_bad_name.Statement.{statement}
 use Rattle.reader.proofs.scan.any_bad_name.Tie as tie
 
@@ -60,7 +60,7 @@ loop-again-2 c =
     no-name-here text (l .at) (c .before .before .loop-test .taken) (omega (arith, c .before .name-end .ensures)) ∙ l .inv
 
 returns-2 : tie.Need-returns-2 Inv-loop μ-loop
-returns-2 c = sym (sym (c .before .loop .inv) ∙ none-bad (c .before .before .before .args .text .now) (c .before .loop .at) (c .loop-test .left))
+returns-2 c = sym (sym (c .before .loop .inv) ∙ end-not-bad (c .before .before .before .args .text .now) (c .before .loop .at) (c .loop-test .left))
 
 pub any-bad-name-spec : {M : Type 1} → statement M
 any-bad-name-spec =

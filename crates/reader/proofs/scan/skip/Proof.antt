@@ -1,61 +1,20 @@
--- `skip` goes to the end of a gap: the run from `i` ends where the run from `at` does. Assumes nothing.
-use mathlib.Core.Path.{_≡_, refl, sym, _∙_}
-use Prim.Native.Nat.{_+_, _-_}
-use native.Mathlib.Omega.{arith}
+-- `skip` goes to the end of a gap. Assumes nothing.
+use mathlib.Core.Path.{ap, _∙_}
+use Prim.Native.Nat.{_+_}
 use borrow.Author.Needs.{needs}
-use lib.ListN.{length, drop}
-use Rattle.reader.specs.Scanning.{gapRun}
-use Rattle.reader.proofs.Runs.{gap-run, run-more, run-stops, run-past}
+use lib.ListN.{drop}
+use Rattle.reader.specs.Scanning.{inGap, runOf}
+use Rattle.reader.proofs.Classes.{classes-tested}
 use Rattle.reader.proofs.scan.skip.Statement.{statement}
 use Rattle.reader.proofs.scan.skip.Tie as tie
 
-abbrev Inv-loop : tie.InvT-loop
-Inv-loop text at i₀ i = i + gapRun (drop i text) ≡ at + gapRun (drop at text)
+run-end-requires : tie.Need-run-end-requires
+run-end-requires c κs = search needs
 
-abbrev μ-loop : tie.MeasureT-loop
-μ-loop text at i₀ i = length text - i
-
-loop-holds : tie.Need-loop-holds Inv-loop μ-loop
-loop-holds c = refl
-
-shared-slice-read-in-gap : tie.Need-shared-slice-read-in-gap Inv-loop μ-loop
-shared-slice-read-in-gap c = search needs
-
-in-gap-requires : tie.Need-in-gap-requires Inv-loop μ-loop
-in-gap-requires c κs = search needs
-
-add-i : tie.Need-add-i Inv-loop μ-loop
-add-i c = omega arith
-
-loop-less : tie.Need-loop-less Inv-loop μ-loop
-loop-less c = omega arith
-
-loop-again : tie.Need-loop-again Inv-loop μ-loop
-loop-again c =
-    let l = c .before .before .before .before .loop in
-    let text = c .before .before .before .before .before .before .args .text .now in
-    run-more gap-run text (l .i) (c .before .before .before .loop-test .taken) (sym (c .before .in-gap .ensures) ∙ c .if1 .taken) ∙ l .inv
-
-returns : tie.Need-returns Inv-loop μ-loop
+returns : tie.Need-returns
 returns c =
-    let l = c .before .before .before .before .loop in
-    let text = c .before .before .before .before .before .before .args .text .now in
-    omega (arith, run-stops gap-run text (l .i) (c .before .before .before .loop-test .taken) (sym (c .before .in-gap .ensures) ∙ c .if1 .left))
-
-returns-2 : tie.Need-returns-2 Inv-loop μ-loop
-returns-2 c = omega (arith, run-past gap-run (c .before .before .before .args .text .now) (c .before .loop .i) (c .loop-test .left))
+    let a = c .before .before .args in
+    c .run-end .ensures ∙ ap (λ test. a .at + runOf test (drop (a .at) (a .text .now))) (classes-tested inGap)
 
 pub skip-spec : {M : Type 1} → statement M
-skip-spec =
-    tie.close
-    (tie.spec
-    Inv-loop
-    μ-loop
-    loop-holds
-    shared-slice-read-in-gap
-    in-gap-requires
-    add-i
-    loop-less
-    loop-again
-    returns
-    returns-2)
+skip-spec = tie.close (tie.spec run-end-requires returns)

@@ -5,13 +5,13 @@ use native.Mathlib.Omega.{arith}
 use borrow.Author.Needs.{needs}
 use Rattle.text.specs.Binding.{indexOf}
 use Rattle.reader.specs.Scanning.{nameAt, variableWord}
-use Rattle.reader.proofs.Naming.{past, past-none, binders, no-binders, its-binder, not-its-binder}
+use Rattle.reader.proofs.Naming.{past, past-none, boundNames, no-binders, its-binder, not-its-binder}
 use Rattle.reader.proofs.scan.variable_word.Statement.{statement}
 use Rattle.reader.proofs.scan.variable_word.Tie as tie
 
 abbrev Inv-loop : tie.InvT-loop
 Inv-loop text at scope depth d₀ d =
-    (d ≤ depth) × (past (depth - d) (indexOf (nameAt text at) (binders text scope d)) ≡ indexOf (nameAt text at) (binders text scope depth))
+    (d ≤ depth) × (past (depth - d) (indexOf (nameAt text at) (boundNames text scope d)) ≡ indexOf (nameAt text at) (boundNames text scope depth))
 
 abbrev μ-loop : tie.MeasureT-loop
 μ-loop text at scope depth d₀ d = d
@@ -20,7 +20,7 @@ loop-holds : tie.Need-loop-holds Inv-loop μ-loop
 loop-holds c =
     let a = c .before .before .args in
     let text = a .text .now in
-    let index = indexOf (nameAt text (a .at)) (binders text (a .scope .now) (a .depth)) in
+    let index = indexOf (nameAt text (a .at)) (boundNames text (a .scope .now) (a .depth)) in
     (omega arith, past-none (a .depth - a .depth) index (omega arith))
 
 sub-d : tie.Need-sub-d Inv-loop μ-loop

@@ -7,6 +7,7 @@ use lib.Seq.{length-take-le}
 use borrow.Author.Tests.{not-true, not-false}
 use borrow.Author.Needs.{needs}
 use Rattle.term.specs.Table.{tableIn}
+use Rattle.term.proofs.Table.{nodes-are}
 use Rattle.session.specs.Counting.{haveLog}
 use Rattle.session.specs.Types.{sessionMeant}
 use Rattle.session.proofs.Words.{zeros-past, counted-to}
@@ -26,10 +27,9 @@ returns c =
     no-node (tableIn (a .table .now) (a .n)) (sessionMeant (a .session)) (a .log .now) (a .tape .now) (omega arith)
 
 returns-2 : tie.Need-returns-2
-unfolding tableIn
 returns-2 c =
     let a = c .before .before .before .before .before .before .before .args in
-    past-nodes (tableIn (a .table .now) (a .n)) (sessionMeant (a .session)) (a .log .now) (a .tape .now) (omega arith)
+    past-nodes (tableIn (a .table .now) (a .n)) (sessionMeant (a .session)) (a .log .now) (a .tape .now) (omega (arith, nodes-are (a .table .now) (a .n)))
 
 returns-3 : tie.Need-returns-3
 returns-3 c =
@@ -111,7 +111,6 @@ is-tape-requires : tie.Need-is-tape-requires
 is-tape-requires c κs = search needs
 
 returns-8 : tie.Need-returns-8
-unfolding tableIn
 returns-8 c =
     let a = c .before .before .before .before .before .before .before .before .before .before .before .before .before .before .before .before .before .before .before .before .before .args in
     let T = tableIn (a .table .now) (a .n) in
@@ -120,9 +119,10 @@ returns-8 c =
     let l = t .before .before .before in
     let e = l .before .before .before in
     let from-one : 1 ≤ a .session .node = omega arith in
+    let to-last : a .session .node ≤ T .nodes = omega (arith, nodes-are (a .table .now) (a .n)) in
     c .is-tape .ensures
     ∙ tape-decides T (sessionMeant (a .session)) (a .log .now) (a .tape .now)
-    from-one (e .before .before .if2 .left) (e .before .if3 .left) (e .if4 .left)
+    from-one to-last (e .before .if3 .left) (e .if4 .left)
     (zeros-past (a .log .now) (a .session .«log_len») (l .before .zeros .ensures) (not-false (l .before .zeros .result) (l .if5 .left)))
     (zeros-past (a .tape .now) (a .session .«tape_len») (t .before .zeros2 .ensures) (not-false (t .before .zeros2 .result) (t .if6 .left)))
     (counted-to (haveLog T (take (a .session .«log_len») (a .log .now)) 0) (u .before .before .before .level .result) (T .level (a .session .node))

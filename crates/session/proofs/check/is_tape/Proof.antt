@@ -1,98 +1,23 @@
--- `is_tape`: what is left to count from here is the whole count.
-use mathlib.Core.Path.{_≡_, refl, sym, ap, _∙_}
-use mathlib.Core.Logic.{⊎-elim}
-use Prim.Native.Nat.{_+_, _-_, _≤_, _<_}
-use native.Mathlib.Omega.{arith}
-use lib.ListN.{length, drop, getD}
-use Rattle.term.specs.Table.{tableIn}
-use Rattle.session.specs.Counting.{haveTape}
-use Rattle.session.proofs.Words.{count-most, tape-end, tape-bullet, tape-stop, tape-more}
+-- `is_tape`: whether there is a count.
+use mathlib.Core.Path.{refl}
+use borrow.Author.Needs.{needs}
 use Rattle.session.proofs.check.is_tape.Statement.{statement}
 use Rattle.session.proofs.check.is_tape.Tie as tie
 
-abbrev Inv-loop : tie.InvT-loop
-Inv-loop table n words have₀ i₀ have i = (i ≤ length words) × (have ≤ i) × (haveTape (tableIn table n) words 0 ≡ haveTape (tableIn table n) (drop i words) have)
+entries-in-requires : tie.Need-entries-in-requires
+entries-in-requires c κs = search needs
 
-abbrev μ-loop : tie.MeasureT-loop
-μ-loop table n words have₀ i₀ have i = length words - i
+enum-told : tie.Need-enum-told
+enum-told c = search needs
 
-loop-holds : tie.Need-loop-holds Inv-loop μ-loop
-loop-holds c = (omega arith, omega arith, refl)
+enum-told-2 : tie.Need-enum-told-2
+enum-told-2 c = search needs
 
-mul-if1 : tie.Need-mul-if1 Inv-loop μ-loop
-mul-if1 c = omega arith
+returns : tie.Need-returns
+returns c = let e = rw (c .enum-told .given .1) at (c .before .before .entries-in .ensures) in rw e refl
 
-shared-slice-read-if1 : tie.Need-shared-slice-read-if1 Inv-loop μ-loop
-shared-slice-read-if1 c = omega arith
-
-mul-entries-with : tie.Need-mul-entries-with Inv-loop μ-loop
-mul-entries-with c = omega arith
-
-shared-slice-read-entries-with : tie.Need-shared-slice-read-entries-with Inv-loop μ-loop
-shared-slice-read-entries-with c = omega arith
-
-entries-with-requires : tie.Need-entries-with-requires Inv-loop μ-loop
-entries-with-requires c κs = omega arith
-
-returns : tie.Need-returns Inv-loop μ-loop
-returns c =
-    let l = c .before .before .before .before .before .before in
-    let a = l .before .before .before .args in
-    let T = tableIn (a .table .now) (a .n) in
-    let e = l .loop .inv .2
-    ∙ tape-stop T (a .words .now) (l .loop .i) (l .loop .have) (omega arith) (c .before .before .before .if1 .left) (sym (c .if2 .taken) ∙ c .before .entries-with .ensures) in
-    rw e
-
-add-i : tie.Need-add-i Inv-loop μ-loop
-add-i c = omega arith
-
-loop-less : tie.Need-loop-less Inv-loop μ-loop
-loop-less c = omega arith
-
-loop-again : tie.Need-loop-again Inv-loop μ-loop
-loop-again c =
-    let l = c .before .before .before in
-    let a = l .before .before .before .args in
-    let T = tableIn (a .table .now) (a .n) in
-    let s = a .words .now in
-    let i = l .loop .i in
-    let h : i < length s = omega arith in
-    ⊎-elim
-    (λ w. (
-      omega arith,
-      omega (arith, w .1),
-      l .loop .inv .2 ∙ tape-bullet T s i (l .loop .have) h (w .0 .taken) ∙ ap (λ k. haveTape T (drop (i + 1) s) k) (sym (w .1)),
-    ))
-    (λ w. (
-      omega arith,
-      omega (arith, count-most T (getD s i 0) (l .loop .have), w .2 .ensures, w .4),
-      l .loop .inv .2
-          ∙ tape-more T s i (l .loop .have) h (w .0 .left) (w .2 .result) (w .2 .ensures) (w .3 .left)
-          ∙ ap (λ k. haveTape T (drop (i + 1) s) k) (sym (w .4)),
-    ))
-    (c .if1 .came)
-
-returns-2 : tie.Need-returns-2 Inv-loop μ-loop
-returns-2 c =
-    let l = c .before in
-    let a = l .before .before .before .args in
-    let e = l .loop .inv .2 ∙ tape-end (tableIn (a .table .now) (a .n)) (a .words .now) (l .loop .i) (l .loop .have) (omega arith) in
-    rw e
+returns-2 : tie.Need-returns-2
+returns-2 c = let e = rw (c .enum-told2 .given .1) at (c .before .before .entries-in .ensures) in rw e refl
 
 pub is-tape-spec : {M : Type 1} → statement M
-is-tape-spec =
-    tie.close
-    (tie.spec
-    Inv-loop
-    μ-loop
-    loop-holds
-    mul-if1
-    shared-slice-read-if1
-    mul-entries-with
-    shared-slice-read-entries-with
-    entries-with-requires
-    returns
-    add-i
-    loop-less
-    loop-again
-    returns-2)
+is-tape-spec = tie.close (tie.spec entries-in-requires enum-told enum-told-2 returns returns-2)

@@ -1,4 +1,4 @@
--- `move_words` copies one word a turn and clears it: after i turns i zeros stand in the one slice, and the i words in the other.
+-- `move_words` copies one word a pass and clears it: after i passes i zeros stand in the one slice, and the i words in the other.
 use mathlib.Core.Path.{_≡_, refl, sym, ap, ap₂, _∙_}
 use mathlib.Core.List.{List, _++_, append-assoc}
 use Prim.Native.Nat.{ℕ, _≤_, _<_, _-_, _+_}
@@ -11,7 +11,7 @@ use Rattle.session.proofs.Slices.{zeros-all}
 use Rattle.session.proofs.mover.move_words.Statement.{statement}
 use Rattle.session.proofs.mover.move_words.Tie as tie
 
--- a turn's two stores: the next word of s, and the zero in its place
+-- a pass's two stores: the next word of s, and the zero in its place
 store-next : (s d : List ℕ) (i : ℕ) → i < length d → i < length s → set (paste d 0 s i) i (getD s i 0) ≡ paste d 0 s (i + 1)
 store-next s d i h k =
     let e : i ≡ 0 + i = omega arith in
@@ -118,13 +118,15 @@ returns c =
     let a = l .before .args in
     let b = a .top - a .k in
     let e : l .loop .i ≡ a .k = omega arith in
-    let t : b + a .k ≡ a .top = omega arith in (
-      l .loop .inv .1
+    let t : b + a .k ≡ a .top = omega arith in
+    record {
+      left =
+          l .loop .inv .1
           ∙ ap (paste (a .from .now) b (replicate (a .k) 0)) e
           ∙ append-assoc (take b (a .from .now)) _ _
-          ∙ ap₂ (λ q j. take b (a .from .now) ++ (q ++ drop j (a .from .now))) (zeros-all (a .k)) t,
-      l .loop .inv .2 ∙ ap (paste (a .to .now) 0 (drop b (a .from .now))) e ∙ ap (λ j. take (a .k) (drop b (a .from .now)) ++ drop j (a .to .now)) (zero-add (a .k)),
-    )
+          ∙ ap₂ (λ q j. take b (a .from .now) ++ (q ++ drop j (a .from .now))) (zeros-all (a .k)) t;
+      came = l .loop .inv .2 ∙ ap (paste (a .to .now) 0 (drop b (a .from .now))) e ∙ ap (λ j. take (a .k) (drop b (a .from .now)) ++ drop j (a .to .now)) (zero-add (a .k));
+    }
 
 pub move-words-spec : {M : Type 1} → statement M
 move-words-spec =

@@ -58,23 +58,23 @@ returns : tie.Need-returns
 returns c ls ts s h =
     let a = c .before .before .before .before .before .before .args in
     let T = tableIn (a .table .now) (a .n) in
-    let is-down = sym (ap dirMeant (c .before .before .before .enum-told .given .1)) ∙ h .holds .dir-is in
-    let is-empty = empty-tape (s .tape) (sym (c .before .if1 .taken) ∙ h .holds .tape-length) in
-    let is-kind = c .kind .ensures ∙ ap (T .kind) (h .holds .node-is) in
+    let is-down = sym (ap dirMeant (c .before .before .before .enum-told .given .1)) ∙ h .enters .holds .dir-is in
+    let is-empty = empty-tape (s .tape) (sym (c .before .if1 .taken) ∙ h .enters .holds .tape-length) in
+    let is-kind = c .kind .ensures ∙ ap (T .kind) (h .enters .holds .node-is) in
     ap (λ k. eqb k 2) is-kind ∙ at-kind (T .kind (s .node)) ∙ ap₂ (isAnswerBy (kindAt T (s .node))) is-down (sym is-empty)
 
 returns-2 : tie.Need-returns-2
 returns-2 c ls ts s h =
     let a = c .before .before .before .before .before .args in
     let T = tableIn (a .table .now) (a .n) in
-    let is-down = sym (ap dirMeant (c .before .before .enum-told .given .1)) ∙ h .holds .dir-is in
-    not-empty (kindAt T (s .node)) (s .tape) (λ e. c .if1 .left (h .holds .tape-length ∙ sym e)) ∙ ap (λ d. isAnswerBy (kindAt T (s .node)) d (s .tape)) is-down
+    let is-down = sym (ap dirMeant (c .before .before .enum-told .given .1)) ∙ h .enters .holds .dir-is in
+    not-empty (kindAt T (s .node)) (s .tape) (λ e. c .if1 .left (h .enters .holds .tape-length ∙ sym e)) ∙ ap (λ d. isAnswerBy (kindAt T (s .node)) d (s .tape)) is-down
 
 returns-3 : tie.Need-returns-3
 returns-3 c ls ts s h =
     let a = c .before .before .before .args in
     let T = tableIn (a .table .now) (a .n) in
-    let is-up = sym (ap dirMeant (c .enum-told2 .given .1)) ∙ h .holds .dir-is in
+    let is-up = sym (ap dirMeant (c .enum-told2 .given .1)) ∙ h .enters .holds .dir-is in
     not-up (kindAt T (s .node)) (s .tape) ∙ ap (λ d. isAnswerBy (kindAt T (s .node)) d (s .tape)) is-up
 
 pub is-answer-spec : {M : Type 1} → statement M

@@ -1,5 +1,5 @@
 -- `pop_bullet` makes rules 2 and 5.
-use Rattle.session.proofs.Bullets.{bullet-goes}
+use Rattle.session.proofs.BulletRules.{bullet-goes}
 use borrow.Author.Needs.{needs}
 use Rattle.session.proofs.rules.pop_bullet.Statement.{statement}
 use Rattle.session.proofs.rules.pop_bullet.Tie as tie

@@ -1,5 +1,5 @@
 -- `push_bullet` makes rules 1 and 7, or finds the tape full.
-use Rattle.session.proofs.Bullets.{bullet-comes, bullet-over}
+use Rattle.session.proofs.BulletRules.{bullet-comes, bullet-over}
 use borrow.Author.Needs.{needs}
 use Rattle.session.proofs.rules.push_bullet.Statement.{statement}
 use Rattle.session.proofs.rules.push_bullet.Tie as tie

@@ -1,221 +1,187 @@
--- `step` makes the step of the rule that was chosen.
-use mathlib.Core.Path.{_≡_, refl, subst}
-use Rattle.term.specs.Table.{tableIn}
-use Rattle.machine.specs.Machine.{State}
-use Rattle.session.specs.Steps.{Stands}
-use Rattle.session.specs.Rules.{RuleIs}
+-- `step` makes the step of the rule that fits.
+use mathlib.Core.Path.{_≡_, subst}
+use mathlib.Core.List.{List}
+use Prim.Native.Nat.{ℕ}
+use Rattle.session.specs.Rules.{Fitting}
+use Rattle.session.specs.declared.Session as Declared
 use Rattle.session.specs.declared.choice.Rule.{Rule}
-use Rattle.session.specs.declared.choice.Rule.the-variants.{One, Two, Three, Four, Five, Six, Seven, Eight, Unfit}
-use Rattle.session.proofs.Bullets.{bullet-counted}
+use Rattle.session.proofs.BulletRules.{bullet-counted}
+use Rattle.session.proofs.MovingRules.{moved-6, moved-8}
 use borrow.Author.Needs.{needs}
 use Rattle.session.proofs.rules.step.Statement.{statement}
 use Rattle.session.proofs.rules.step.Tie as tie
 
--- what `chosen` promises, at the rule that an arm was told
-fitted : (c : tie.After-chosen) (r : Rule) → c .chosen .result ≡ r →
-    (let a = c .before .before .before .before .before .args in
-    (s : State) → Stands (a .table .now) (a .n) (a .session) (a .log .now) (a .tape .now) s → RuleIs (tableIn (a .table .now) (a .n)) s r)
-fitted c r e s h =
-    let a = c .before .before .before .before .before .args in
-    subst (RuleIs (tableIn (a .table .now) (a .n)) s) e (c .chosen .ensures (a .log .now) s h)
+-- what is required, at the rule that an arm was told
+told : {w : List ℕ} {n : ℕ} {se : Declared.Session} {ls ts : List ℕ} {r q : Rule} → r ≡ q → Fitting w n se ls ts r → Fitting w n se ls ts q
+told {w} {n} {se} {ls} {ts} e f = subst (Fitting w n se ls ts) e f
 
-chosen-requires : tie.Need-chosen-requires
-chosen-requires c κs = search needs
-
-enum-known-node : tie.Need-enum-known-node
-enum-known-node c = search needs
+enum-known-rule : tie.Need-enum-known-rule
+enum-known-rule c = search needs
 
 push-bullet-requires : tie.Need-push-bullet-requires
 push-bullet-requires c κs = search needs
 
-enum-known-node-2 : tie.Need-enum-known-node-2
-enum-known-node-2 c = search needs
+enum-known-rule-2 : tie.Need-enum-known-rule-2
+enum-known-rule-2 c = search needs
 
 pop-bullet-requires : tie.Need-pop-bullet-requires
 pop-bullet-requires c κs =
-    let f = c .before .before .before in
-    let ready = f .before .before .before .before .before .pre in
-    let rule = fitted f (Two (c .before .node2 .given .0 .0)) (c .before .node2 .given .1) (ready .state) (ready .stands) in
-    bullet-counted (ready .stands) (rule .0) (rule .1)
+    let f = told (c .before .rule2 .given .1) (c .before .before .before .before .before .before .pre) in
+    let r = f .fits (f .ready .state) (f .ready .token) in
+    bullet-counted (f .ready .token) (r .0) (r .1)
 
-enum-known-node-3 : tie.Need-enum-known-node-3
-enum-known-node-3 c = search needs
+enum-known-rule-3 : tie.Need-enum-known-rule-3
+enum-known-rule-3 c = search needs
 
 rule-3-requires : tie.Need-rule-3-requires
-rule-3-requires c κs = record {
-  ready = c .before .before .before .before .before .before .before .before .before .before .pre;
-  fits = fitted (c .before .before .before .before .before) (Three (c .before .before .before .node3 .given .0 .0)) (c .before .before .before .node3 .given .1);
-}
+rule-3-requires c κs = told (c .before .before .before .rule3 .given .1) (c .before .before .before .before .before .before .before .before .pre)
 
-enum-known-node-4 : tie.Need-enum-known-node-4
-enum-known-node-4 c = search needs
+enum-known-rule-4 : tie.Need-enum-known-rule-4
+enum-known-rule-4 c = search needs
 
 rule-4-requires : tie.Need-rule-4-requires
-rule-4-requires c κs = record {
-  ready = c .before .before .before .before .before .before .before .before .before .before .pre;
-  fits = fitted (c .before .before .before .before .before) (Four (c .before .before .before .node4 .given .0 .0)) (c .before .before .before .node4 .given .1);
-}
+rule-4-requires c κs = told (c .before .before .before .rule4 .given .1) (c .before .before .before .before .before .before .before .before .pre)
 
-enum-known-node-5 : tie.Need-enum-known-node-5
-enum-known-node-5 c = search needs
+enum-known-rule-5 : tie.Need-enum-known-rule-5
+enum-known-rule-5 c = search needs
 
 pop-bullet-requires-2 : tie.Need-pop-bullet-requires-2
 pop-bullet-requires-2 c κs =
-    let f = c .before .before .before in
-    let ready = f .before .before .before .before .before .pre in
-    let rule = fitted f (Five (c .before .node5 .given .0 .0)) (c .before .node5 .given .1) (ready .state) (ready .stands) in
-    bullet-counted (ready .stands) (rule .0) (rule .1)
+    let f = told (c .before .rule5 .given .1) (c .before .before .before .before .before .before .pre) in
+    let r = f .fits (f .ready .state) (f .ready .token) in
+    bullet-counted (f .ready .token) (r .0) (r .1)
 
-enum-known-node-6 : tie.Need-enum-known-node-6
-enum-known-node-6 c = search needs
+enum-known-rule-6 : tie.Need-enum-known-rule-6
+enum-known-rule-6 c = search needs
 
-rule-6-requires : tie.Need-rule-6-requires
-rule-6-requires c κs = record {
-  ready = c .before .before .before .before .before .before .before .before .before .before .pre;
-  fits = fitted (c .before .before .before .before .before) (Six (c .before .before .before .node6 .given .0 .0)) (c .before .before .before .node6 .given .1);
-}
+move-top-requires : tie.Need-move-top-requires
+move-top-requires c κs = search needs
 
-enum-known-node-7 : tie.Need-enum-known-node-7
-enum-known-node-7 c = search needs
+onto-log-requires : tie.Need-onto-log-requires
+onto-log-requires c κs = search needs
+
+enum-known-rule-7 : tie.Need-enum-known-rule-7
+enum-known-rule-7 c = search needs
 
 push-bullet-requires-2 : tie.Need-push-bullet-requires-2
 push-bullet-requires-2 c κs = search needs
 
-enum-known-node-8 : tie.Need-enum-known-node-8
-enum-known-node-8 c = search needs
+enum-known-rule-8 : tie.Need-enum-known-rule-8
+enum-known-rule-8 c = search needs
 
-rule-8-requires : tie.Need-rule-8-requires
-rule-8-requires c κs = record {
-  ready = c .before .before .before .before .before .before .before .before .before .before .pre;
-  fits = fitted (c .before .before .before .before .before) (Eight (c .before .before .before .node8 .given .0 .0)) (c .before .before .before .node8 .given .1);
-}
+move-top-requires-2 : tie.Need-move-top-requires-2
+move-top-requires-2 c κs = search needs
 
-enum-told : tie.Need-enum-told
-enum-told c = search needs
+onto-tape-requires : tie.Need-onto-tape-requires
+onto-tape-requires c κs = search needs
 
 same-length : tie.Need-same-length
 same-length c = search needs
 
 returns : tie.Need-returns
 returns c =
-    let f = c .before .before .before .before .before in
-    let a = f .before .before .before .before .before .args in
-    λ s h. c .push-bullet .ensures (a .table .now) (a .n) (a .log .now) s h (fitted f (One (c .before .before .before .node .given .0 .0)) (c .before .before .before .node .given .1) s h)
+    let a = c .before .before .before .before .before .before .before .before .args in
+    λ s h. c .push-bullet .ensures (a .table .now) (a .n) (a .log .now) s h (told (c .before .before .before .rule .given .1) (c .before .before .before .before .before .before .before .before .pre) .fits s h)
+
+returns-2 : tie.Need-returns-2
+returns-2 c =
+    let a = c .before .before .before .before .before .before .before .args in
+    λ s h.
+    let r = told (c .before .before .rule2 .given .1) (c .before .before .before .before .before .before .before .pre) .fits s h in
+    c .pop-bullet .ensures (a .table .now) (a .n) (a .log .now) (a .tape .now) s (r .0) h (r .1) (r .2)
 
 same-length-2 : tie.Need-same-length-2
 same-length-2 c = search needs
 
-returns-2 : tie.Need-returns-2
-returns-2 c =
-    let f = c .before .before .before .before in
-    let a = f .before .before .before .before .before .args in
-    λ s h.
-    let rule = fitted f (Two (c .before .before .node2 .given .0 .0)) (c .before .before .node2 .given .1) s h in
-    c .pop-bullet .ensures (a .table .now) (a .n) (a .log .now) (a .tape .now) s (rule .0) h (rule .1) (rule .2)
-
 same-length-3 : tie.Need-same-length-3
 same-length-3 c = search needs
-
-same-length-4 : tie.Need-same-length-4
-same-length-4 c = search needs
 
 returns-3 : tie.Need-returns-3
 returns-3 c = search needs
 
+same-length-4 : tie.Need-same-length-4
+same-length-4 c = search needs
+
 same-length-5 : tie.Need-same-length-5
 same-length-5 c = search needs
-
-same-length-6 : tie.Need-same-length-6
-same-length-6 c = search needs
 
 returns-4 : tie.Need-returns-4
 returns-4 c = search needs
 
+returns-5 : tie.Need-returns-5
+returns-5 c =
+    let a = c .before .before .before .before .before .before .before .args in
+    λ s h.
+    let r = told (c .before .before .rule5 .given .1) (c .before .before .before .before .before .before .before .pre) .fits s h in
+    c .pop-bullet2 .ensures (a .table .now) (a .n) (a .log .now) (a .tape .now) s (r .0) h (r .1) (r .2)
+
+same-length-6 : tie.Need-same-length-6
+same-length-6 c = search needs
+
 same-length-7 : tie.Need-same-length-7
 same-length-7 c = search needs
 
-returns-5 : tie.Need-returns-5
-returns-5 c =
-    let f = c .before .before .before .before in
-    let a = f .before .before .before .before .before .args in
-    λ s h.
-    let rule = fitted f (Five (c .before .before .node5 .given .0 .0)) (c .before .before .node5 .given .1) s h in
-    c .pop-bullet2 .ensures (a .table .now) (a .n) (a .log .now) (a .tape .now) s (rule .0) h (rule .1) (rule .2)
+returns-6 : tie.Need-returns-6
+returns-6 c =
+    let f = told (c .before .before .before .before .before .before .before .before .before .rule6 .given .1) (c .before .before .before .before .before .before .before .before .before .before .before .before .before .before .pre) in
+    λ s h. rw (c .onto-log .ensures) (moved-6 h (c .before .before .before .before .before .before .before .before .before .rule6 .given .0 .0) (f .fits s h) (c .before .before .before .before .before .move-top .result) _ _ (c .before .before .before .before .before .move-top .ensures))
 
 same-length-8 : tie.Need-same-length-8
 same-length-8 c = search needs
 
+returns-7 : tie.Need-returns-7
+returns-7 c =
+    let a = c .before .before .before .before .before .before .before .before .args in
+    λ s h. c .push-bullet2 .ensures (a .table .now) (a .n) (a .log .now) s h (told (c .before .before .before .rule7 .given .1) (c .before .before .before .before .before .before .before .before .pre) .fits s h)
+
 same-length-9 : tie.Need-same-length-9
 same-length-9 c = search needs
-
-returns-6 : tie.Need-returns-6
-returns-6 c = search needs
 
 same-length-10 : tie.Need-same-length-10
 same-length-10 c = search needs
 
-returns-7 : tie.Need-returns-7
-returns-7 c =
-    let f = c .before .before .before .before .before in
-    let a = f .before .before .before .before .before .args in
-    λ s h. c .push-bullet2 .ensures (a .table .now) (a .n) (a .log .now) s h (fitted f (Seven (c .before .before .before .node7 .given .0 .0)) (c .before .before .before .node7 .given .1) s h)
-
-same-length-11 : tie.Need-same-length-11
-same-length-11 c = search needs
-
-same-length-12 : tie.Need-same-length-12
-same-length-12 c = search needs
-
 returns-8 : tie.Need-returns-8
-returns-8 c = search needs
-
-same-length-13 : tie.Need-same-length-13
-same-length-13 c = search needs
-
-returns-9 : tie.Need-returns-9
-returns-9 c = λ s h. (fitted (c .before .before) Unfit (c .enum-told .given .1) s h, refl, refl)
+returns-8 c =
+    let f = told (c .before .before .before .before .before .before .before .before .before .rule8 .given .1) (c .before .before .before .before .before .before .before .before .before .before .before .before .before .before .pre) in
+    λ s h. rw (c .onto-tape .ensures) (moved-8 h (c .before .before .before .before .before .before .before .before .before .rule8 .given .0 .0) (f .fits s h) (c .before .before .before .before .before .move-top2 .result) _ _ (c .before .before .before .before .before .move-top2 .ensures))
 
 pub step-spec : {M : Type 1} → statement M
 step-spec =
     tie.close
     (tie.spec
-    chosen-requires
-    enum-known-node
+    enum-known-rule
     push-bullet-requires
-    enum-known-node-2
+    enum-known-rule-2
     pop-bullet-requires
-    enum-known-node-3
+    enum-known-rule-3
     rule-3-requires
-    enum-known-node-4
+    enum-known-rule-4
     rule-4-requires
-    enum-known-node-5
+    enum-known-rule-5
     pop-bullet-requires-2
-    enum-known-node-6
-    rule-6-requires
-    enum-known-node-7
+    enum-known-rule-6
+    move-top-requires
+    onto-log-requires
+    enum-known-rule-7
     push-bullet-requires-2
-    enum-known-node-8
-    rule-8-requires
-    enum-told
+    enum-known-rule-8
+    move-top-requires-2
+    onto-tape-requires
     same-length
     returns
-    same-length-2
     returns-2
+    same-length-2
     same-length-3
-    same-length-4
     returns-3
+    same-length-4
     same-length-5
-    same-length-6
     returns-4
-    same-length-7
     returns-5
-    same-length-8
-    same-length-9
+    same-length-6
+    same-length-7
     returns-6
-    same-length-10
+    same-length-8
     returns-7
-    same-length-11
-    same-length-12
-    returns-8
-    same-length-13
-    returns-9)
+    same-length-9
+    same-length-10
+    returns-8)

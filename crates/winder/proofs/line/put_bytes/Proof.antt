@@ -1,4 +1,4 @@
--- `put_bytes` is safe and ends: each turn keeps the buffer's length and leaves a byte less.
+-- `put_bytes` is safe and ends: each pass keeps the buffer's length and leaves a byte less.
 use Prim.Native.Nat.{_-_}
 use mathlib.Core.Path.{_≡_, refl}
 use native.Mathlib.Omega.{arith}

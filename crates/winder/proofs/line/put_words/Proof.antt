@@ -1,4 +1,4 @@
--- `put_words` is safe and ends: each turn keeps the buffer's length and leaves a word less.
+-- `put_words` is safe and ends: each pass keeps the buffer's length and leaves a word less.
 use mathlib.Core.Path.{_≡_, refl}
 use native.Mathlib.Omega.{arith}
 use borrow.Author.Needs.{needs}

@@ -1,0 +1,114 @@
+-- What the functions of a winding loop promise: what ends a walk before a step, one pass of the loop, and the running outcome.
+use mathlib.Core.Path.{_≡_}
+use mathlib.Core.Option.{none, some}
+use mathlib.Core.List.{List}
+use Prim.Native.Nat.{ℕ, suc, _+_, _-_, _≤_, _<_, max}
+use lib.ListN.{length}
+use Rattle.term.specs.Table.{tableIn}
+use Rattle.machine.specs.Machine.{State, turned, turn}
+use Rattle.calls.specs.Session
+use Rattle.calls.specs.Stops.{Way, forward, back, moment, room, greatest, nextBy, haltBefore, stopBefore}
+use Rattle.calls.specs.Winding.{wind}
+use Rattle.calls.specs.Calls.{wound, refusedOutcome}
+use Rattle.session.specs.Types.{wayMeant, stopMeant, outcomeMeant, lent}
+use Rattle.session.specs.Steps.{TokenAt}
+use Rattle.session.specs.Rules.{RuleIs}
+use Rattle.session.specs.declared.Session as Declared
+use Rattle.session.specs.declared.Outcome as Came
+use Rattle.session.specs.declared.Stop.the-variants.{Spent}
+use Rattle.session.specs.declared.Stop as DeclaredStop
+use Rattle.session.specs.declared.winding.Way as DeclaredWay
+use Rattle.session.specs.declared.winding.Before.{Before}
+use Rattle.session.specs.declared.winding.Before.the-variants.{Ends, Makes}
+use Rattle.session.specs.declared.winding.Pass.{Pass}
+use Rattle.session.specs.declared.winding.Pass.the-variants.{On, Halted}
+
+-- A session with its direction turned.
+abbrev pub turnedSession : Session.Session → Session.Session
+turnedSession s = record {
+  node = s .node;
+  dir = turned (s .dir);
+  position = s .position;
+  logLength = s .logLength;
+  tapeLength = s .tapeLength;
+}
+
+-- What a step is made from: going back, the session and the state turned.
+abbrev pub facingSession : Way → Session.Session → Session.Session
+facingSession forward s = s
+facingSession back s = turnedSession s
+
+abbrev pub facing : Way → State → State
+facing forward s = s
+facing back s = turn s
+
+-- there is a position after the step
+abbrev pub HasNext : Way → ℕ → Type 0
+HasNext forward p = p < greatest
+HasNext back p = 1 ≤ p
+
+-- the session after a step that arrived as this one, which is still at the position before it
+abbrev pub sessionAfter : Way → Session.Session → Session.Session
+sessionAfter forward s = record {
+  node = s .node;
+  dir = s .dir;
+  position = s .position + 1;
+  logLength = s .logLength;
+  tapeLength = s .tapeLength;
+}
+sessionAfter back s = record {
+  node = s .node;
+  dir = turned (s .dir);
+  position = s .position - 1;
+  logLength = s .logLength;
+  tapeLength = s .tapeLength;
+}
+
+-- Before a step, the count not used up: the stop, if it is not a full slice; or the rule that fits what the step is made from.
+abbrev pub BeforeIs : List ℕ → ℕ → Declared.Session → Way → State → Before → Type 0
+BeforeIs w n se way s (Ends x) = (c : ℕ) → haltBefore way (tableIn w n) (suc c) (moment s (se .position)) ≡ some (stopMeant x)
+BeforeIs w n se way s (Makes r) =
+    ((c : ℕ) → haltBefore way (tableIn w n) (suc c) (moment s (se .position)) ≡ none)
+    × HasNext way (se .position)
+    × RuleIs (tableIn w n) (facing way s) r
+
+abbrev pub TellsBefore : List ℕ → ℕ → Declared.Session → List ℕ → Way → Before → Type 0
+TellsBefore w n se ts way b = (ls : List ℕ) (s : State) → TokenAt w n se ls ts s → BeforeIs w n se way s b
+
+-- One pass of the loop, the count not used up: on to the next moment, or halted where it stands.
+abbrev pub PassIs : List ℕ → ℕ → Declared.Session → List ℕ → List ℕ → Way → State → Pass → List ℕ → List ℕ → Type 0
+PassIs w n se ls ts way s (On to) ls′ ts′ =
+    (u : State)
+    × (nextBy way (tableIn w n) (moment s (se .position)) ≡ some (moment u (to .position)))
+    × ((c : ℕ) → stopBefore way (tableIn w n) (room ls ts) (suc c) (moment s (se .position)) ≡ none)
+    × TokenAt w n to ls′ ts′ u
+    × (length ls′ ≡ length ls)
+    × (length ts′ ≡ length ts)
+PassIs w n se ls ts way s (Halted x) ls′ ts′ =
+    ((c : ℕ) → stopBefore way (tableIn w n) (room ls ts) (suc c) (moment s (se .position)) ≡ some (stopMeant x)) × (ls′ ≡ ls) × (ts′ ≡ ts)
+
+abbrev pub Passes : List ℕ → ℕ → Declared.Session → List ℕ → List ℕ → DeclaredWay.Way → Pass → List ℕ → List ℕ → Type 0
+Passes w n se ls ts way p ls′ ts′ = (s : State) → TokenAt w n se ls ts s → PassIs w n se ls ts (wayMeant way) s p ls′ ts′
+
+-- The running outcome of a loop: of no step, with one step more, and halted.
+abbrev pub weightOf : Declared.Session → ℕ
+weightOf se = se .«log_len» + se .«tape_len»
+
+abbrev pub begunAt : Declared.Session → Came.Outcome
+begunAt se = record { session = se; steps = 0; stop = Spent; peak = weightOf se }
+
+abbrev pub lengthenedTo : Came.Outcome → Declared.Session → Came.Outcome
+lengthenedTo o to = record { session = to; steps = o .steps + 1; stop = Spent; peak = max (o .peak) (weightOf to) }
+
+abbrev pub endedBy : Came.Outcome → DeclaredStop.Stop → Came.Outcome
+endedBy o x = record { session = o .session; steps = o .steps; stop = x; peak = o .peak }
+
+-- The whole loop answers the run from every state held.
+abbrev pub Winds : List ℕ → ℕ → Declared.Session → List ℕ → List ℕ → DeclaredWay.Way → ℕ → Came.Outcome → List ℕ → List ℕ → Type 0
+Winds w n se ls ts way count o ls′ ts′ =
+    (s : State) → TokenAt w n se ls ts s
+    → outcomeMeant o ls′ ts′ ≡ wound (room ls ts) (wind (wayMeant way) (tableIn w n) (room ls ts) count (moment s (se .position)))
+
+-- Number k instead of a stop, whatever was lent: the session given, and nothing done.
+abbrev pub Refuses : Declared.Session → ℕ → Came.Outcome → Type 0
+Refuses se k o = (w : List ℕ) (n : ℕ) (ls ts : List ℕ) → outcomeMeant o ls ts ≡ refusedOutcome k (lent w n se ls ts)
