@@ -1,7 +1,7 @@
 #!/usr/bin/env python3
 """An independent reading of document 01, from which the expected outputs of the programs `cases` and `winder` are worked out.
 
-  tools/reference.py cases            what `cases` must print
+  tools/reference.py cases < SCRIPT   what `cases` must print for a script of cases, as crates/cases/stdin (script.py)
   tools/reference.py winder < TERM    what `winder` must print for a term
 
 It shares nothing with the crates: terms are trees with names, entries are nested tuples, the machine is the eight rules over them, and a session is
@@ -371,7 +371,7 @@ if __name__ == '__main__':
     if sys.argv[1:] == ['winder']:
         print('\n'.join(winder(sys.stdin.buffer.read())))
     elif sys.argv[1:] == ['cases']:
-        from cases import lines
-        print('\n'.join(lines()))
+        import script
+        sys.stdout.buffer.write(script.run(sys.stdin.buffer.read()))
     else:
         sys.exit(__doc__)

@@ -1,15 +1,240 @@
-// Runs the cases of document 01 that are not theorems. What it must print was worked out apart from it (tools/reference.py).
-mod reading;
-mod refusals;
-mod rooms;
-mod sessions;
+// Runs the script of cases on standard input, a command to a line. What it must print is worked out apart from it (tools/reference.py).
+ghost use Prim.Native.Nat.{_<_, _≤_};
+ghost use lib.ListN.{length};
+
+mod command;
+mod desk;
+mod lent;
+mod moves;
 mod show;
-mod winding;
+mod words;
+
+use command::Plain;
+use command::Topic;
+use command::is_open;
+use command::plain_of;
+use command::row_of;
+use command::topic_of;
+use desk::Desk;
+use desk::cleared;
+use desk::with_nodes;
+use desk::with_session;
+use desk::with_text;
+use lent::changed;
+use lent::compose;
+use moves::made;
+use session::Dir;
+use session::Session;
+use show::show;
+use show::show_number;
+use show::show_word;
+use show::show_words;
+use show::show_wrong;
+use words::after_parts;
+use words::bytes_before;
+use words::bytes_through;
+use words::number_at;
+
+fn least(a: usize, b: usize) -> usize
+    ensures { λ r. ⌜ (r ≤ a) × (r ≤ b) ⌝ }
+{
+    if a < b { a } else { b }
+}
+
+// The line of the script that starts at an index.
+fn line_at(script: &[u8], at: usize) -> &[u8] {
+    let start = least(at, script.len());
+    let rest = &script[start..];
+    let end = bytes_before(rest, b'\n');
+    &rest[0..end]
+}
+
+// A printed line begins with the name that follows the command and its numbers, or with the command where there is none.
+fn show_name(line: &[u8], words: usize) {
+    let name = after_parts(line, b' ', words);
+    if name.len() == 0 {
+        show(line);
+    } else {
+        show(name);
+    }
+}
+
+// A slice's label and its words.
+fn show_slice(label: &[u8], words: &[u32], size: usize) {
+    let k = least(size, words.len());
+    show(label);
+    show_words(&words[0..k]);
+}
+
+fn show_slices(d: Desk, log: &[u32], tape: &[u32]) {
+    show_slice(b" L", log, d.log_size);
+    show_slice(b" T", tape, d.tape_size);
+    show(b"\n");
+}
+
+// A session by hand.
+fn stood(line: &[u8], dir: Dir) -> Session {
+    Session {
+        node: number_at(line, 1),
+        dir: dir,
+        position: number_at(line, 2),
+        log_len: number_at(line, 3),
+        tape_len: number_at(line, 4),
+    }
+}
+
+// Does what the line at an index says, where it concerns no slice.
+fn plainly(line: &[u8], at: usize, row: usize, d: Desk) -> Desk {
+    match plain_of(row) {
+        Plain::Nothing => d,
+        Plain::Wrong => {
+            show_wrong(line);
+            d
+        }
+        Plain::Text => with_text(d, at),
+        Plain::Nodes => with_nodes(d, number_at(line, 1)),
+        Plain::Down => with_session(d, stood(line, Dir::Down)),
+        Plain::Up => with_session(d, stood(line, Dir::Up)),
+    }
+}
+
+// Reads a text into as much of the table as is lent, and shows the answer; n.
+fn read_lent(line: &[u8], text: &[u8], table: &mut [u32], lent: usize) -> u32 {
+    let k = least(lent, table.len());
+    let r = reader::read(text, &mut table[0..k]);
+    show_name(line, 1);
+    show_number(b" n ", r.n);
+    show_number(b" refusal ", r.refusal);
+    r.n
+}
+
+// The text that the script says at an index; its length.
+fn text_at(script: &[u8], at: usize, text: &mut [u8]) -> usize {
+    compose(text, after_parts(line_at(script, at), b' ', 1))
+}
+
+fn show_table(d: Desk, table: &[u32]) {
+    show_slice(b" table", table, d.table_size);
+    show(b"\n");
+}
+
+// Reads the text that the script says, and shows the answer and the table.
+fn read_shown(script: &[u8], line: &[u8], d: Desk, table: &mut [u32]) -> Desk {
+    // One byte more than a text of the script may have, so that a longer one shows.
+    let mut text = [0u8; 3002];
+    let len = text_at(script, d.text, &mut text);
+    if 3001 < len {
+        show_wrong(line);
+        return d;
+    }
+    let n = read_lent(line, &text[0..len], table, d.table);
+    show_table(d, &table[..]);
+    with_nodes(d, n)
+}
+
+fn accepted_lent(d: Desk, table: &[u32]) -> bool {
+    let k = least(d.table, table.len());
+    term::accepts(&table[0..k], d.n)
+}
+
+fn accept_shown(line: &[u8], d: Desk, table: &[u32]) -> Desk {
+    show_name(line, 1);
+    show_word(accepted_lent(d, table) as u32);
+    show(b"\n");
+    d
+}
+
+// Makes a call, or a walk, on what is lent, and shows its answer.
+fn made_lent(
+    line: &[u8],
+    row: usize,
+    d: Desk,
+    table: &[u32],
+    log: &mut [u32],
+    tape: &mut [u32],
+) -> Desk {
+    let k = least(d.table, table.len());
+    let l = least(d.log, log.len());
+    let t = least(d.tape, tape.len());
+    made(
+        row,
+        d,
+        &table[0..k],
+        &mut log[0..l],
+        &mut tape[0..t],
+        number_at(line, 1),
+    )
+}
+
+// How many words of the line stand before a name.
+fn words_of(row: usize) -> usize {
+    if is_open(row) { 1 } else { 2 }
+}
+
+// Makes a call, or a walk, and shows its answer and both slices.
+fn made_shown(
+    line: &[u8],
+    row: usize,
+    d: Desk,
+    table: &[u32],
+    log: &mut [u32],
+    tape: &mut [u32],
+) -> Desk {
+    show_name(line, words_of(row));
+    let e = made_lent(line, row, d, table, log, tape);
+    show_slices(d, &log[..], &tape[..]);
+    e
+}
+
+// Does what the line at an index says; the desk after it.
+fn obey(
+    script: &[u8],
+    at: usize,
+    d: Desk,
+    table: &mut [u32],
+    log: &mut [u32],
+    tape: &mut [u32],
+) -> Desk {
+    let line = line_at(script, at);
+    let row = row_of(line);
+    match topic_of(row) {
+        Topic::Plain => plainly(line, at, row, d),
+        Topic::Table => changed(line, row, 0, table, d),
+        Topic::Log => changed(line, row, 1, log, d),
+        Topic::Tape => changed(line, row, 2, tape, d),
+        Topic::Read => read_shown(script, line, d, table),
+        Topic::Accept => accept_shown(line, d, &table[..]),
+        Topic::Made => made_shown(line, row, d, &table[..], log, tape),
+    }
+}
+
+// Where the next line starts.
+fn next_line(script: &[u8], at: usize) -> usize
+    requires { ⌜ at < length (now script) ⌝ }
+    ensures { λ r. ⌜ (at < r) × (r ≤ length (now (script .entry))) ⌝ }
+{
+    at + bytes_through(&script[at..], b'\n')
+}
+
+fn run(script: &[u8], table: &mut [u32], log: &mut [u32], tape: &mut [u32]) {
+    let mut d = cleared(script.len());
+    let mut at = 0;
+    while at < script.len() {
+        d = obey(script, at, d, table, log, tape);
+        at = next_line(script, at);
+    }
+}
 
 fn main() {
-    reading::all();
-    rooms::all();
-    sessions::all();
-    refusals::all();
-    winding::all();
+    // One byte more than a script may have, so that a longer one shows.
+    let mut script = [0u8; 24576];
+    let got = io::read_full(0, &mut script);
+    if 24575 < got {
+        show_wrong(b"the script is too long");
+        return;
+    }
+    let mut table = [0u32; 15010];
+    let mut log = [0u32; 16385];
+    let mut tape = [0u32; 16385];
+    run(&script[..got], &mut table, &mut log, &mut tape);
 }

@@ -1,97 +1,140 @@
-// What the cases print: words, sums of long slices, readings and outcomes, a line each.
+// What the script prints: names, numbers, sessions, stops and slices.
+use crate::command::is_compared;
+use crate::command::is_open;
+use crate::desk::Desk;
+use crate::words::nth_part;
 use session::Dir;
-use session::Outcome;
-use session::Session;
 use session::Stop;
 
-pub(crate) fn text(s: &[u8]) {
-    let _whole = io::write_all(1, s);
+pub(crate) fn show(bytes: &[u8]) {
+    let _whole = io::write_all(1, bytes);
 }
 
-pub(crate) fn number(n: u32) {
-    text(b" ");
+// A label and a number.
+pub(crate) fn show_number(label: &[u8], n: u32) {
+    show(label);
     let _whole = io::print_decimal(1, n as u64);
 }
 
-pub(crate) fn end() {
-    text(b"\n");
+// A line that is no command, or one that asks for too much.
+pub(crate) fn show_wrong(line: &[u8]) {
+    show(b"? ");
+    show(line);
+    show(b"\n");
 }
 
-pub(crate) fn words(w: &[u32]) {
-    let mut i = 0;
-    while i < w.len() {
-        number(w[i]);
-        i += 1;
+// A blank and a number.
+pub(crate) fn show_word(n: u32) {
+    show_number(b" ", n);
+}
+
+// A word so many times in a row, if at all: each time, or, where these are more than three, once with how many.
+fn show_run(word: u32, times: u32) {
+    if 0 < times {
+        show_word(word);
+    }
+    if 3 < times {
+        show_number(b"*", times);
+        return;
+    }
+    if 1 < times {
+        show_word(word);
+    }
+    if 2 < times {
+        show_word(word);
     }
 }
 
-// A sum in which each word's place counts, for slices that are too long to print.
-pub(crate) fn sum(w: &[u32]) {
-    let mut all: u64 = 1;
+// Every word, in order.
+pub(crate) fn show_words(words: &[u32]) {
+    let mut last: u32 = 0;
+    let mut times: u32 = 0;
     let mut i = 0;
-    while i < w.len() {
-        all = (all * 31 + w[i] as u64) % 65521;
+    while i < words.len() {
+        let word = words[i];
+        if word != last {
+            show_run(last, times);
+            times = 0;
+        }
+        last = word;
+        times = std::num::wrapping_add_u32(times, 1);
         i += 1;
     }
-    text(b" sum ");
-    let _whole = io::print_decimal(1, all);
+    show_run(last, times);
 }
 
-pub(crate) fn session(s: Session) {
-    number(s.node);
-    let dir = s.dir;
+// A direction's place among the letters of `show_session`.
+pub(crate) fn dir_place(dir: Dir) -> usize {
     match dir {
-        Dir::Down => text(b" d"),
-        Dir::Up => text(b" u"),
+        Dir::Down => 0,
+        Dir::Up => 1,
     }
-    number(s.position);
-    number(s.log_len);
-    number(s.tape_len);
 }
 
-fn stop(x: Stop) {
+// Node, direction, position, and the lengths of log and tape.
+fn show_session(d: Desk) {
+    show_word(d.node);
+    show_number(nth_part(b" d | u ", b'|', d.dir), d.position);
+    show_word(d.log_len);
+    show_word(d.tape_len);
+}
+
+// An answer's node, a refusal's number, and 0 for the other stops.
+pub(crate) fn stop_number(x: Stop) -> u32 {
     match x {
-        Stop::Spent => text(b" spent"),
-        Stop::Answer(i) => {
-            text(b" answer");
-            number(i);
-        }
-        Stop::Jam => text(b" jam"),
-        Stop::Far => text(b" far"),
-        Stop::Start => text(b" start"),
-        Stop::LogFull => text(b" log full"),
-        Stop::TapeFull => text(b" tape full"),
-        Stop::Refused(k) => {
-            text(b" refused");
-            number(k);
-        }
+        Stop::Spent => 0,
+        Stop::Answer(i) => i,
+        Stop::Jam => 0,
+        Stop::Far => 0,
+        Stop::Start => 0,
+        Stop::LogFull => 0,
+        Stop::TapeFull => 0,
+        Stop::Refused(k) => k,
     }
 }
 
-// A call's name, the session after it, the steps, the stop and the peak.
-pub(crate) fn outcome(name: &[u8], o: Outcome) {
-    text(name);
-    let s = o.session;
-    session(s);
-    text(b" steps");
-    number(o.steps);
-    let x = o.stop;
-    stop(x);
-    text(b" peak");
-    number(o.peak);
+// A stop's place among the names of `show_answer`.
+pub(crate) fn stop_place(x: Stop) -> usize {
+    match x {
+        Stop::Spent => 0,
+        Stop::Jam => 1,
+        Stop::Far => 2,
+        Stop::Start => 3,
+        Stop::LogFull => 4,
+        Stop::TapeFull => 5,
+        Stop::Answer(_) => 6,
+        Stop::Refused(_) => 7,
+    }
 }
 
-// The two slices, word for word, in their order.
-pub(crate) fn slices(log: &[u32], tape: &[u32]) {
-    text(b" L");
-    words(log);
-    text(b" T");
-    words(tape);
-    end();
+// The stop's name, and the number of those that have one.
+fn show_stop(place: usize, number: u32) {
+    let names = b" spent, jam, far, start, log full, tape full, answer , refused ";
+    let name = nth_part(names, b',', place);
+    if place < 6 {
+        show(name);
+    } else {
+        show_number(name, number);
+    }
 }
 
-pub(crate) fn sums(log: &[u32], tape: &[u32]) {
-    sum(log);
-    sum(tape);
-    end();
+// The session after a call, the steps, the stop and the peak.
+fn show_answer(d: Desk) {
+    show_session(d);
+    show_number(b" steps ", d.steps);
+    show_stop(d.stop, d.number);
+    show_number(b" peak ", d.peak);
+}
+
+// What the call of a row answered; open has no stop; of a walk back also how many states agreed.
+pub(crate) fn show_made(row: usize, d: Desk, agreed: u32) {
+    if is_open(row) {
+        show_session(d);
+        show_number(b" refusal ", d.number);
+        return;
+    }
+    show_answer(d);
+    if is_compared(row) {
+        show_number(b" agreed ", agreed);
+    }
 }

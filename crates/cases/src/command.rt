@@ -1,0 +1,127 @@
+// The commands of the script: their words, what may follow each, and what they are. A new one is a row of the list and its case below it.
+use crate::words::has_shape;
+use crate::words::nth_part;
+use crate::words::number_at;
+use crate::words::row_in;
+use crate::words::same_bytes;
+
+// What a command is about.
+pub(crate) enum Topic {
+    Plain,
+    Table,
+    Log,
+    Tape,
+    Read,
+    Accept,
+    Made,
+}
+
+// What concerns no slice.
+pub(crate) enum Plain {
+    Nothing,
+    Wrong,
+    Text,
+    Nodes,
+    Down,
+    Up,
+}
+
+// What becomes of a slice: so many words, all the same; one word; how many words a call gets; the rows of a tower.
+pub(crate) enum Change {
+    Fill,
+    Set,
+    Lend,
+    Tower,
+}
+
+// A call on a session.
+pub(crate) enum SessionCall {
+    Open,
+    Forward,
+    Back,
+    GoTo,
+}
+
+// The row of a line's word in a list of rows: a word, how many numbers follow it, and + where a text or a name may follow these. 99 is none.
+fn listed(line: &[u8], list: &[u8]) -> usize {
+    let row = row_in(list, nth_part(line, b' ', 0));
+    let numbers = number_at(list, 3 * row + 1);
+    let open_ended = same_bytes(nth_part(list, b' ', 3 * row + 2), b"+");
+    if has_shape(line, numbers, open_ended) {
+        row
+    } else {
+        99
+    }
+}
+
+// The row of a line's command; 98 where it says nothing.
+pub(crate) fn row_of(line: &[u8]) -> usize {
+    if line.len() == 0 {
+        return 98;
+    }
+    if line[0] == b'#' {
+        return 98;
+    }
+    listed(
+        line,
+        b"text 0 + n 1 . down 4 . up 4 . read 0 + accept 0 + \
+          open 0 + forward 1 + back 1 + go-to 1 + walk 1 + walk-back 1 + \
+          table 2 . set-table 2 . lend-table 1 . tower 1 . \
+          log 2 . set-log 2 . lend-log 1 . tape 2 . set-tape 2 . lend-tape 1 .",
+    )
+}
+
+pub(crate) fn topic_of(row: usize) -> Topic {
+    match row {
+        4 => Topic::Read,
+        5 => Topic::Accept,
+        6..=11 => Topic::Made,
+        12..=15 => Topic::Table,
+        16..=18 => Topic::Log,
+        19..=21 => Topic::Tape,
+        _ => Topic::Plain,
+    }
+}
+
+pub(crate) fn plain_of(row: usize) -> Plain {
+    match row {
+        0 => Plain::Text,
+        1 => Plain::Nodes,
+        2 => Plain::Down,
+        3 => Plain::Up,
+        98 => Plain::Nothing,
+        _ => Plain::Wrong,
+    }
+}
+
+pub(crate) fn call_of(row: usize) -> SessionCall {
+    match row {
+        6 => SessionCall::Open,
+        8 | 11 => SessionCall::Back,
+        9 => SessionCall::GoTo,
+        _ => SessionCall::Forward,
+    }
+}
+
+pub(crate) fn is_open(row: usize) -> bool {
+    row == 6
+}
+
+// Whether the states of the call are compared: on the way back.
+pub(crate) fn is_compared(row: usize) -> bool {
+    row == 11
+}
+
+// Whether the call is made so many times, of one step each.
+pub(crate) fn is_walk(row: usize) -> bool {
+    if row == 10 { true } else { row == 11 }
+}
+
+pub(crate) fn change_of(row: usize) -> Change {
+    match row {
+        12 | 16 | 19 => Change::Fill,
+        13 | 17 | 20 => Change::Set,
+        15 => Change::Tower,
+        _ => Change::Lend,
+    }
+}

@@ -1,0 +1,153 @@
+// What the calls are lent: texts, and slices of words.
+use crate::command::Change;
+use crate::command::change_of;
+use crate::desk::Desk;
+use crate::desk::resized;
+use crate::desk::size_on;
+use crate::show::show_wrong;
+use crate::words::after_parts;
+use crate::words::bytes_before;
+use crate::words::bytes_through;
+use crate::words::is_number;
+use crate::words::nth_part;
+use crate::words::number_at;
+use crate::words::number_in;
+
+// In a text of the script `_` is a blank and `|` a line feed.
+fn meant_byte(b: u8) -> u8 {
+    match b {
+        b'_' => b' ',
+        b'|' => b'\n',
+        _ => b,
+    }
+}
+
+// Puts bytes into the text from `at`; how long it is then. What does not fit is left out.
+fn append(text: &mut [u8], at: usize, bytes: &[u8]) -> usize {
+    let mut end = at;
+    let mut i = 0;
+    while i < bytes.len() {
+        if text.len() <= end {
+            return end;
+        }
+        text[end] = meant_byte(bytes[i]);
+        end += 1;
+        i += 1;
+    }
+    end
+}
+
+fn append_often(text: &mut [u8], at: usize, bytes: &[u8], times: u32) -> usize {
+    let mut end = at;
+    let mut left = times;
+    while 0 < left {
+        end = append(text, end, bytes);
+        left -= 1;
+    }
+    end
+}
+
+// Whether a piece of a text is a number, a star and bytes.
+fn is_repeated(piece: &[u8]) -> bool {
+    if bytes_before(piece, b'*') < piece.len() {
+        is_number(nth_part(piece, b'*', 0))
+    } else {
+        false
+    }
+}
+
+// A piece of a text: bytes, or how often they come, a star and the bytes.
+fn append_piece(text: &mut [u8], at: usize, piece: &[u8]) -> usize {
+    let repeated = is_repeated(piece);
+    let times = if repeated {
+        number_in(nth_part(piece, b'*', 0))
+    } else {
+        1
+    };
+    append_often(text, at, after_parts(piece, b'*', repeated as usize), times)
+}
+
+// The text made of pieces; its length.
+pub(crate) fn compose(text: &mut [u8], pieces: &[u8]) -> usize {
+    let mut len = 0;
+    let mut rest = pieces;
+    while 0 < rest.len() {
+        let end = bytes_before(rest, b' ');
+        len = append_piece(text, len, &rest[0..end]);
+        let next = bytes_through(rest, b' ');
+        rest = &rest[next..];
+    }
+    len
+}
+
+fn fill(words: &mut [u32], word: u32) {
+    let mut i = 0;
+    while i < words.len() {
+        words[i] = word;
+        i += 1;
+    }
+}
+
+fn set(words: &mut [u32], i: usize, word: u32) {
+    if i < words.len() {
+        words[i] = word;
+    }
+}
+
+// Word i of the table of so many abstractions over one variable, bound by the first; 0 after it.
+fn tower_word(i: usize, deep: u32) -> u32 {
+    if (deep as usize) < i / 5 {
+        return 0;
+    }
+    let row = (i / 5) as u32;
+    match i % 5 {
+        0 => if row < deep { 2 } else { 1 },
+        1 => if row < deep {
+            std::num::wrapping_add_u32(row, 2)
+        } else {
+            1
+        },
+        3 => row,
+        _ => 0,
+    }
+}
+
+fn tower(words: &mut [u32], deep: u32) {
+    let mut i = 0;
+    while i < words.len() {
+        words[i] = tower_word(i, deep);
+        i += 1;
+    }
+}
+
+// Whether a slice has words enough for what the line says of it.
+fn is_within(what: Change, k: usize, capacity: usize, size: usize) -> bool {
+    match what {
+        Change::Fill => k <= capacity,
+        Change::Set => k < size,
+        Change::Lend => k <= size,
+        Change::Tower => k < size / 5,
+    }
+}
+
+fn rewrite(what: Change, words: &mut [u32], k: u32, word: u32) {
+    match what {
+        Change::Fill => fill(words, word),
+        Change::Set => set(words, k as usize, word),
+        Change::Lend => {}
+        Change::Tower => tower(words, k),
+    }
+}
+
+// Does what the line says of a slice: 0 is the table, 1 the log, 2 the tape.
+pub(crate) fn changed(line: &[u8], row: usize, slice: u32, words: &mut [u32], d: Desk) -> Desk {
+    let what = change_of(row);
+    let k = number_at(line, 1);
+    if is_within(what, k as usize, words.len(), size_on(d, slice)) {
+        rewrite(what, words, k, number_at(line, 2));
+        resized(d, slice, what, k as usize)
+    } else {
+        show_wrong(line);
+        d
+    }
+}

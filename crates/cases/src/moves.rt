@@ -1,0 +1,134 @@
+// The calls on a session that the script makes.
+use crate::command::SessionCall;
+use crate::command::call_of;
+use crate::command::is_compared;
+use crate::command::is_walk;
+use crate::desk::Desk;
+use crate::desk::same_session;
+use crate::desk::session_on;
+use crate::desk::with_outcome;
+use crate::show::show_made;
+use session::Opening;
+use session::Outcome;
+use session::Session;
+use session::Stop;
+use session::back;
+use session::forward;
+use session::go_to;
+use session::open;
+
+// Open's answer as that of a call that makes no step; its refusal, 0 where there is none, stands for the stop.
+fn as_outcome(o: Opening) -> Outcome {
+    let s = o.session;
+    Outcome {
+        session: s,
+        steps: 0,
+        stop: Stop::Refused(o.refusal),
+        peak: 0,
+    }
+}
+
+// Makes a call on a session.
+fn call_made(
+    which: SessionCall,
+    n: u32,
+    s: Session,
+    table: &[u32],
+    log: &mut [u32],
+    tape: &mut [u32],
+    count: u32,
+) -> Outcome {
+    match which {
+        SessionCall::Open => as_outcome(open(table, n, log, tape)),
+        SessionCall::Forward => forward(table, n, s, log, tape, count),
+        SessionCall::Back => back(table, n, s, log, tape, count),
+        SessionCall::GoTo => go_to(table, n, s, log, tape, count),
+    }
+}
+
+fn after_call(
+    which: SessionCall,
+    d: Desk,
+    table: &[u32],
+    log: &mut [u32],
+    tape: &mut [u32],
+    count: u32,
+) -> Desk {
+    with_outcome(
+        d,
+        call_made(which, d.n, session_on(d), table, log, tape, count),
+    )
+}
+
+fn same_words(a: &[u32], b: &[u32]) -> bool {
+    if a.len() != b.len() {
+        return false;
+    }
+    let mut i = 0;
+    while i < a.len() {
+        if a[i] != b[i] {
+            return false;
+        }
+        i += 1;
+    }
+    true
+}
+
+// The session opened afresh and wound to the same position in one call.
+fn afresh(d: Desk, table: &[u32], log: &mut [u32], tape: &mut [u32]) -> Desk {
+    let first = after_call(SessionCall::Open, d, table, log, tape, 0);
+    after_call(SessionCall::Forward, first, table, log, tape, d.position)
+}
+
+// Where states are compared, on slices of 64 words, 1 if the session is the one opened afresh on others and wound to its position in one call, word for word.
+fn agrees(compared: bool, d: Desk, table: &[u32], log: &[u32], tape: &[u32]) -> u32 {
+    if !compared {
+        return 0;
+    }
+    let mut other_log = [5u32; 64];
+    let mut other_tape = [5u32; 64];
+    let other = afresh(d, table, &mut other_log, &mut other_tape);
+    if !same_session(other, d) {
+        return 0;
+    }
+    if !same_words(&other_log, log) {
+        return 0;
+    }
+    same_words(&other_tape, tape) as u32
+}
+
+// The steps of the first call: a walk begins with none.
+fn first_count(walks: bool, count: u32) -> u32 {
+    if walks { 0 } else { count }
+}
+
+// How many calls are made.
+fn how_often(walks: bool, count: u32) -> u64 {
+    if walks { count as u64 + 1 } else { 1 }
+}
+
+// Makes a call with a count; or, in a walk, one with 0 and as many with 1 as the count says. Shows the last answer, and how many states of a walk back agree.
+pub(crate) fn made(
+    row: usize,
+    desk: Desk,
+    table: &[u32],
+    log: &mut [u32],
+    tape: &mut [u32],
+    count: u32,
+) -> Desk {
+    let walks = is_walk(row);
+    let compared = is_compared(row);
+    let mut left = how_often(walks, count);
+    let mut steps = first_count(walks, count);
+    let mut d = desk;
+    let mut agreed: u32 = 0;
+    while 0 < left {
+        d = after_call(call_of(row), d, table, log, tape, steps);
+        let more = agrees(compared, d, table, &log[..], &tape[..]);
+        agreed = std::num::wrapping_add_u32(agreed, more);
+        steps = 1;
+        left -= 1;
+    }
+    show_made(row, d, agreed);
+    d
+}

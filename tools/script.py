@@ -1,0 +1,213 @@
+"""The script of cases (crates/cases/stdin, which says its commands) on reference.py's reading of document 01: what the program `cases` must print."""
+from itertools import groupby
+
+from reference import GREATEST, START, Machine, Session, accepted, call, go_to, lay, open_session, read, wind, words
+
+LONGEST_SCRIPT, LONGEST_TEXT = 24575, 3001
+
+
+class Wrong(Exception):
+    pass
+
+
+class Slice:
+    """A lent slice: its words, how many there may be, and how many of them a call gets."""
+    def __init__(self, capacity):
+        self.capacity, self.words, self.given = capacity, [], 0
+
+    def fill(self, size, word):
+        if size > self.capacity:
+            raise Wrong
+        self.words, self.given = [word] * size, size
+
+    def set(self, i, word):
+        if i >= len(self.words):
+            raise Wrong
+        self.words[i] = word
+
+    def lend(self, size):
+        if size > len(self.words):
+            raise Wrong
+        self.given = size
+
+    def part(self):
+        return self.words[:self.given]
+
+    def back(self, part):
+        self.words[:self.given] = part
+
+    def shown(self):
+        out = ''
+        for word, run in groupby(self.words):
+            times = len(list(run))
+            out += ' %d*%d' % (word, times) if times > 3 else ' %d' % word * times
+        return out
+
+
+class Desk:
+    """What the next call gets, and a command for each word of the script."""
+    def __init__(self):
+        self.text, self.n, self.session = b'', 0, Session()
+        self.table, self.log, self.tape = Slice(15010), Slice(16385), Slice(16385)
+
+    # the text, n and the session
+
+    def do_text(self, pieces):
+        self.text = b''
+        for piece in pieces.split(b' ') if pieces else ():
+            times, star, bytes = piece.partition(b'*')
+            self.text += bytes * int(times) if star and is_number(times) else piece
+        self.text = self.text.replace(b'_', b' ').replace(b'|', b'\n')[:LONGEST_TEXT + 1]
+
+    def do_n(self, n):
+        self.n = n
+
+    def do_down(self, *numbers):
+        self.session = Session(numbers[0], 'd', *numbers[1:])
+
+    def do_up(self, *numbers):
+        self.session = Session(numbers[0], 'u', *numbers[1:])
+
+    def do_tower(self, deep):
+        if len(self.table.words) < 5 * (deep + 1):
+            raise Wrong
+        rows = [w for i in range(deep) for w in (2, i + 2, 0, i, 0)] + [1, 1, 0, deep, 0]
+        self.table.words = rows + [0] * (len(self.table.words) - len(rows))
+
+    # the calls, each answering the line to print after its name
+
+    def do_read(self):
+        if len(self.text) > LONGEST_TEXT:
+            raise Wrong
+        self.n, number, ws = read(self.text, self.table.given)
+        self.table.words[:len(ws)] = ws
+        return ' n %d refusal %d table%s' % (self.n, number, self.table.shown())
+
+    def do_accept(self):
+        return ' %d' % (accepted(self.table.part(), self.n) is not None)
+
+    def do_open(self):
+        return self.on_slices(self.opened)
+
+    def do_forward(self, count):
+        return self.on_slices(lambda *lent: self.wound(call(*lent, count, False)))
+
+    def do_back(self, count):
+        return self.on_slices(lambda *lent: self.wound(call(*lent, count, True)))
+
+    def do_go_to(self, position):
+        return self.on_slices(lambda *lent: self.wound(go_to(*lent, position)))
+
+    def do_walk(self, count):
+        return self.on_slices(lambda *lent: self.walked(*lent, count))
+
+    def do_walk_back(self, count):
+        return self.on_slices(lambda *lent: self.walked_back(*lent, count))
+
+    def on_slices(self, made):
+        log, tape = self.log.part(), self.tape.part()
+        answer = made(self.table.part(), self.n, self.session, log, tape)
+        self.log.back(log)
+        self.tape.back(tape)
+        return answer + ' L%s T%s' % (self.log.shown(), self.tape.shown())
+
+    def opened(self, table, n, _session, log, tape):
+        self.session, number = open_session(table, n, log, tape)
+        return ' %s refusal %d' % (self.session.shown(), number)
+
+    def wound(self, outcome):
+        self.session, steps, stop, peak = outcome
+        return ' %s steps %d %s peak %d' % (self.session.shown(), steps, stop, peak)
+
+    def walked(self, table, n, session, log, tape, count):
+        outcome = call(table, n, session, log, tape, 0, False)
+        for _ in range(count):
+            outcome = call(table, n, outcome[0], log, tape, 1, False)
+        return self.wound(outcome)
+
+    def walked_back(self, table, n, session, log, tape, count):
+        """Each state is held to the plain machine's after as many steps from the start as the position says."""
+        states = plain_states(table, n, session.position, len(log), len(tape))
+        outcome = call(table, n, session, log, tape, 0, True)
+        agreed = agrees(states, outcome[0], log, tape)
+        for _ in range(count):
+            outcome = call(table, n, outcome[0], log, tape, 1, True)
+            agreed += agrees(states, outcome[0], log, tape)
+        return self.wound(outcome) + ' agreed %d' % agreed
+
+
+def agrees(states, session, log, tape):
+    p = min(session.position, len(states) - 1)
+    if p < 0 or (len(log), len(tape)) != (64, 64):
+        return False
+    node, dir, L, T = states[p]
+    L, T = words(L), words(T)
+    return session.shown() == Session(node, dir, p, len(L), len(T)).shown() and (log, tape) == (lay(L, 64), lay(T, 64))
+
+
+def plain_states(table, n, count, log_room, tape_room):
+    """The states from the start on, as far as the stops allow, at most so many steps."""
+    rows = accepted(table, n)
+    if rows is None:
+        return []
+    m, states = Machine(rows), [START]
+    while len(states) <= count:
+        s, _, steps, _, _ = wind(m, states[-1], len(states) - 1, 1, log_room, tape_room, False)
+        if steps == 0:
+            break
+        states.append(s)
+    return states
+
+
+# how many numbers follow a word, and whether a text or a name may follow these
+SHAPES = {
+    'text': (0, True), 'n': (1, False), 'down': (4, False), 'up': (4, False), 'tower': (1, False),
+    'read': (0, True), 'accept': (0, True), 'open': (0, True), 'forward': (1, True), 'back': (1, True), 'go-to': (1, True),
+    'walk': (1, True), 'walk-back': (1, True),
+}
+SLICES = ('table', 'log', 'tape')
+for slice in SLICES:
+    SHAPES.update({slice: (2, False), 'set-' + slice: (2, False), 'lend-' + slice: (1, False)})
+
+
+def is_number(word):
+    return word.isdigit() and int(word) <= GREATEST
+
+
+def obey(desk, line):
+    """What the line prints."""
+    word, _, rest = line.partition(b' ')
+    name = word.decode('latin-1')
+    if name not in SHAPES:
+        raise Wrong
+    count, more = SHAPES[name]
+    numbers = []
+    for _ in range(count):
+        number, _, rest = rest.partition(b' ')
+        if not is_number(number):
+            raise Wrong
+        numbers.append(int(number))
+    if rest and not more:
+        raise Wrong
+    what, _, slice = name.rpartition('-')
+    if slice in SLICES:
+        answer = getattr(getattr(desk, slice), what or 'fill')(*numbers)
+    elif name == 'text':
+        answer = desk.do_text(rest)
+    else:
+        answer = getattr(desk, 'do_' + name.replace('-', '_'))(*numbers)
+    return b'' if answer is None else (rest or line) + answer.encode() + b'\n'
+
+
+def run(script):
+    """What `cases` prints for a script."""
+    if len(script) > LONGEST_SCRIPT:
+        return b'? the script is too long\n'
+    desk, out = Desk(), b''
+    for line in script.split(b'\n'):
+        if line and not line.startswith(b'#'):
+            try:
+                out += obey(desk, line)
+            except Wrong:
+                out += b'? ' + line + b'\n'
+    return out
