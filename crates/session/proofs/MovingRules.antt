@@ -21,8 +21,8 @@ use Rattle.session.specs.declared.Dir.the-variants.{Down, Up}
 use Rattle.session.specs.declared.Session as Declared
 use Rattle.session.specs.declared.choice.Rule.the-variants.{Three, Four, Six, Eight}
 use Rattle.session.specs.declared.mover.Moving.the-variants.{Moved, NoRoom}
-use Rattle.session.specs.declared.rules.Ends.{Ends}
-use Rattle.session.specs.declared.rules.Ends.the-variants.{At}
+use Rattle.session.specs.declared.rules.ListEnds.{ListEnds}
+use Rattle.session.specs.declared.rules.ListEnds.the-variants.{At}
 use Rattle.session.specs.declared.rules.Stepped.the-variants.{Made, LogFull, TapeFull}
 use Rattle.session.proofs.Slices.{Lies}
 use Rattle.session.proofs.MovedWords.{entries-words, Found, zerosAbove, lies-stacked, under-stacked, fewer, words-came, entry-came, words-left, words-left-under, entry-found, inside-found, entries-found}
@@ -184,7 +184,7 @@ module _ {w : List ℕ} {n : ℕ} {se : Declared.Session} {ls ts : List ℕ} {s 
         entry-found (tableIn w n) (f .0) (tapeWords (f .1)) (subst (TapeIn (tableIn w n)) (f .2) (h .enters .holds .good .tape-items) .0)
         (lies-stacked (tape-there h (held (f .0) ∷ f .1) (f .2))) k-is
 
-    pub moved-6 : (ends : Ends) (ls′ ts′ : List ℕ) → TopMoved (tableIn w n) ts (se .«tape_len») ls (se .«log_len») ends ts′ ls′
+    pub moved-6 : (ends : ListEnds) (ls′ ts′ : List ℕ) → TopMoved (tableIn w n) ts (se .«tape_len») ls (se .«log_len») ends ts′ ls′
         → StepIs w n se ls ts s (ontoLog j ends) ls′ ts′
     moved-6 (At left came) ls′ ts′ i =
         let (k, part, (k-is, few, room, moved), left-is, came-is, back) = i in
@@ -196,7 +196,7 @@ module _ {w : List ℕ} {n : ℕ} {se : Declared.Session} {ls ts : List ℕ} {s 
         (log-gains j Down (f .3) (entryWords (f .0)) refl k left (found .count) (omega arith) (left-is ∙ fewer found) (omega arith) ls′ ts′
         (back ∙ ap (withPart (se .«log_len») ls) (moved .came) ∙ words-came found log-lies (omega arith))
         (moved .left ∙ words-left (length ts - length (entryWords (f .0) ++ tapeWords (f .1))) found (omega arith)))
-    moved-6 Ends.NoRoom ls′ ts′ i =
+    moved-6 ListEnds.NoRoom ls′ ts′ i =
         let (part, (short, same-tape, same-part), back) = i in
         let count = found-6 refl .count in
         rw back (log-lacks j Down (f .3) (entryWords (f .0)) refl (omega arith) part ts′ same-part same-tape)
@@ -208,7 +208,7 @@ module _ {w : List ℕ} {n : ℕ} {se : Declared.Session} {ls ts : List ℕ} {s 
         entry-found (tableIn w n) (f .0) (logWords (f .1)) (subst (LogIn (tableIn w n)) (f .2) (h .enters .holds .good .log-entries) .0)
         (lies-stacked (log-there h (f .0 ▸ f .1) (f .2))) k-is
 
-    pub moved-8 : (ends : Ends) (ls′ ts′ : List ℕ) → TopMoved (tableIn w n) ls (se .«log_len») ts (se .«tape_len») ends ls′ ts′
+    pub moved-8 : (ends : ListEnds) (ls′ ts′ : List ℕ) → TopMoved (tableIn w n) ls (se .«log_len») ts (se .«tape_len») ends ls′ ts′
         → StepIs w n se ls ts s (ontoTape j ends) ls′ ts′
     moved-8 (At left came) ls′ ts′ i =
         let (k, part, (k-is, few, room, moved), left-is, came-is, back) = i in
@@ -220,7 +220,7 @@ module _ {w : List ℕ} {n : ℕ} {se : Declared.Session} {ls ts : List ℕ} {s 
         (tape-gains j Down (f .3) (entryWords (f .0)) refl left k (found .count) (omega arith) (left-is ∙ fewer found) (omega arith) ls′ ts′
         (moved .left ∙ words-left (length ls - length (entryWords (f .0) ++ logWords (f .1))) found (omega arith))
         (back ∙ ap (withPart (se .«tape_len») ts) (moved .came) ∙ words-came found tape-lies (omega arith)))
-    moved-8 Ends.NoRoom ls′ ts′ i =
+    moved-8 ListEnds.NoRoom ls′ ts′ i =
         let (part, (short, same-log, same-part), back) = i in
         let found = found-8 refl in
         let count = found .count in

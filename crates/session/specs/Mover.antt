@@ -8,8 +8,8 @@ use Rattle.term.specs.Table.{Table}
 use Rattle.machine.specs.Span.{span}
 use Rattle.session.specs.declared.mover.Moving.{Moving}
 use Rattle.session.specs.declared.mover.Moving.the-variants.{Moved, NoRoom}
-use Rattle.session.specs.declared.rules.Ends.{Ends}
-use Rattle.session.specs.declared.rules.Ends.the-variants.{At, NoRoom as Short}
+use Rattle.session.specs.declared.rules.ListEnds.{ListEnds}
+use Rattle.session.specs.declared.rules.ListEnds.the-variants.{At, NoRoom as Short}
 
 -- the k words below index `top` of a slice, in the slice's order
 abbrev pub wordsBelow : List ℕ → ℕ → ℕ → List ℕ
@@ -56,7 +56,7 @@ abbrev pub withPart : ℕ → List ℕ → List ℕ → List ℕ
 withPart m s part = putMid m (length s - m) s part
 
 -- The top entry of one list moved to the part of the other's slice that starts at its top, and these are the lengths then; or it has no room.
-abbrev pub TopMoved : Table → List ℕ → ℕ → List ℕ → ℕ → Ends → List ℕ → List ℕ → Type 0
+abbrev pub TopMoved : Table → List ℕ → ℕ → List ℕ → ℕ → ListEnds → List ℕ → List ℕ → Type 0
 TopMoved T from top to end (At left came) from′ to′ =
     (k : ℕ)
     × (part : List ℕ)

@@ -17,8 +17,8 @@ use Rattle.session.specs.declared.choice.Rule.the-variants.{One, Two, Th
 use Rattle.session.specs.declared.choice.Fit.{Fit}
 use Rattle.session.specs.declared.choice.Fit.the-variants.{By, Unfit}
 use Rattle.session.specs.declared.Dir.the-variants.{Down}
-use Rattle.session.specs.declared.rules.Ends.{Ends}
-use Rattle.session.specs.declared.rules.Ends.the-variants.{At, NoRoom}
+use Rattle.session.specs.declared.rules.ListEnds.{ListEnds}
+use Rattle.session.specs.declared.rules.ListEnds.the-variants.{At, NoRoom}
 use Rattle.session.specs.declared.rules.Stepped.{Stepped}
 use Rattle.session.specs.declared.rules.Stepped.the-variants.{Made, LogFull, TapeFull}
 
@@ -69,10 +69,10 @@ BulletGoes se j d r =
     → step (tableIn w n) s ≡ some (state j (dirMeant d) (s .log) t) → StepIs w n se ls ts s r ls ts
 
 -- An entry moved down to node j, by where the two lists end then: from the tape onto the log, and from the log onto the tape.
-abbrev pub ontoLog : ℕ → Ends → Stepped
+abbrev pub ontoLog : ℕ → ListEnds → Stepped
 ontoLog j (At t l) = Made (record { node = j; dir = Down; «log_len» = l; «tape_len» = t })
 ontoLog j NoRoom = LogFull
 
-abbrev pub ontoTape : ℕ → Ends → Stepped
+abbrev pub ontoTape : ℕ → ListEnds → Stepped
 ontoTape j (At l t) = Made (record { node = j; dir = Down; «log_len» = l; «tape_len» = t })
 ontoTape j NoRoom = TapeFull

@@ -30,7 +30,7 @@ pub(crate) enum Stepped {
 }
 
 // The lengths in words after an entry moved, of the list that it left and of the one that it came to; or that this had no room.
-pub(crate) enum Ends {
+pub(crate) enum ListEnds {
     At(u32, u32),
     NoRoom,
 }
@@ -126,45 +126,45 @@ fn rule_4(table: &[u32], n: u32, at: Session, to: u32, log: &mut [u32], tape: &m
 }
 
 // Rules 6 and 8. The top entry of one list, which has `top` words, moves to the other, which has `end`.
-fn move_top(table: &[u32], n: u32, from: &mut [u32], top: u32, to: &mut [u32], end: u32) -> Ends
+fn move_top(table: &[u32], n: u32, from: &mut [u32], top: u32, to: &mut [u32], end: u32) -> ListEnds
     requires { ⌜ ListIn (now from) top × ListIn (now to) end ⌝ }
     ensures { λ r. ⌜ TopMoved (tableIn (now (table .entry)) n) (now (from .entry)) top (now (to .entry)) end r (now (from .exit)) (now (to .exit)) ⌝ }
 {
     let m = end as usize;
     let moving = move_entries(table, n, from, top as usize, 1, &mut to[m..]);
     match moving {
-        Moving::Moved(k) => Ends::At(top - k as u32, end + k as u32),
-        Moving::NoRoom => Ends::NoRoom,
+        Moving::Moved(k) => ListEnds::At(top - k as u32, end + k as u32),
+        Moving::NoRoom => ListEnds::NoRoom,
     }
 }
 
 // Rule 6. To the argument, down; the entry on top of the tape has moved to the log.
-fn onto_log(to: u32, ends: Ends) -> Stepped
+fn onto_log(to: u32, ends: ListEnds) -> Stepped
     ensures { λ r. ⌜ r ≡ ontoLog to ends ⌝ }
 {
     match ends {
-        Ends::At(tape_len, log_len) => Stepped::Made(Arrival {
+        ListEnds::At(tape_len, log_len) => Stepped::Made(Arrival {
             node: to,
             dir: Dir::Down,
             log_len: log_len,
             tape_len: tape_len,
         }),
-        Ends::NoRoom => Stepped::LogFull,
+        ListEnds::NoRoom => Stepped::LogFull,
     }
 }
 
 // Rule 8. To the function, down; the log's top entry has moved to the tape.
-fn onto_tape(to: u32, ends: Ends) -> Stepped
+fn onto_tape(to: u32, ends: ListEnds) -> Stepped
     ensures { λ r. ⌜ r ≡ ontoTape to ends ⌝ }
 {
     match ends {
-        Ends::At(log_len, tape_len) => Stepped::Made(Arrival {
+        ListEnds::At(log_len, tape_len) => Stepped::Made(Arrival {
             node: to,
             dir: Dir::Down,
             log_len: log_len,
             tape_len: tape_len,
         }),
-        Ends::NoRoom => Stepped::TapeFull,
+        ListEnds::NoRoom => Stepped::TapeFull,
     }
 }
 
