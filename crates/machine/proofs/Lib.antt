@@ -1,4 +1,4 @@
--- The theorems of the plain machine: its lists, its rules and their reversal, and its lists in slices.
+-- The theorems of the plain machine: its lists, its rules and their reversal, its lists in slices, and where the entries of a state come from.
 pub mod Logs
 pub mod Tests
 pub mod Nodes
@@ -10,3 +10,8 @@ pub mod Read
 pub mod Beyond
 pub mod Span
 pub mod After
+pub mod Numbers
+pub mod Stuck
+pub mod Bound
+pub mod Origins
+pub mod Kept

@@ -19,7 +19,7 @@ use Rattle.machine.proofs.Rules.{rule-1, rule-2, rule-3, rule-4, rule-5
 use Rattle.machine.proofs.Nodes.{is-node, Placed, placed}
 
 -- Turning twice changes nothing, and a turned state is as good.
-turned-twice : (d : Dir) → turned (turned d) ≡ d
+pub turned-twice : (d : Dir) → turned (turned d) ≡ d
 turned-twice down = refl
 turned-twice up = refl
 
@@ -165,11 +165,14 @@ module _ (T : Table) (F : Facts T) where
   pub keeps-good : (s u : State) → Good T s → step T s ≡ some u → Good T u
   keeps-good s u g e = undone s u g e .good
 
+  pub step-turned-back : (s u : State) → Good T s → step T s ≡ some u → step T (turn u) ≡ some (turn s)
+  step-turned-back s u g e = undone s u g e .back
+
   pub step-undone : (s t : State) → Good T s → step T s ≡ some t → stepBack T t ≡ some s
   step-undone s t g e = ap (Option·map turn) (undone s t g e .back) ∙ ap some (turn-twice s)
 
   -- a step back is a step between the turned states
-  step-turned : (s t : State) → stepBack T t ≡ some s → step T (turn t) ≡ some (turn s)
+  pub step-turned : (s t : State) → stepBack T t ≡ some s → step T (turn t) ≡ some (turn s)
   step-turned s t e = sym (map-twice (step T (turn t))) ∙ ap (Option·map turn) e
     where
       map-twice : (o : Option State) → Option·map turn (Option·map turn o) ≡ o

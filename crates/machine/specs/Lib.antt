@@ -1,5 +1,6 @@
 pub mod Entries
 pub mod Machine
+pub mod Rule
 pub mod Good
 pub mod Slice
 pub mod Span
