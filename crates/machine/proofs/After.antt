@@ -10,22 +10,19 @@ use Rattle.term.specs.Accepted.{Accepted}
 use Rattle.term.proofs.Facts.{accepted-facts}
 use Rattle.machine.specs.Machine.{State, startState, step, afterFrom, after}
 use Rattle.machine.specs.Good.{Good}
+use Rattle.machine.proofs.Led.{Led}
 use Rattle.machine.proofs.Reverse.{keeps-good}
 
-abbrev GoodIf : Table → Option State → Type 0
-GoodIf T none = Unit
-GoodIf T (some s) = Good T s
-
 module _ (T : Table) (F : Facts T) where
-  good-next : (o : Option State) → GoodIf T o → GoodIf T (o >>= λ u. step T u)
+  good-next : (o : Option State) → Led (Good T) o → Led (Good T) (o >>= λ u. step T u)
   good-next none g = tt
   good-next (some u) g = by-next (step T u) refl
     where
-      by-next : (o : Option State) → step T u ≡ o → GoodIf T o
+      by-next : (o : Option State) → step T u ≡ o → Led (Good T) o
       by-next none e = tt
       by-next (some v) e = keeps-good T F u v g e
 
-  good-from : (s₀ : State) → Good T s₀ → (p : ℕ) → GoodIf T (afterFrom T s₀ p)
+  good-from : (s₀ : State) → Good T s₀ → (p : ℕ) → Led (Good T) (afterFrom T s₀ p)
   unfolding afterFrom
   good-from s₀ g zero = g
   good-from s₀ g (suc p) = good-next (afterFrom T s₀ p) (good-from s₀ g p)
@@ -35,4 +32,4 @@ module _ (w : List ℕ) (n : ℕ) (A : Accepted w n) where
   start-good = let root = accepted-facts w n A .root in record { node-there = root .there; level-many = sym (root .level-is); log-entries = tt; tape-items = tt }
 
   pub after-good : (p : ℕ) (s : State) → after (tableIn w n) p ≡ some s → Good (tableIn w n) s
-  after-good p s e = subst (GoodIf (tableIn w n)) e (good-from (tableIn w n) (accepted-facts w n A) startState start-good p)
+  after-good p s e = subst (Led (Good (tableIn w n))) e (good-from (tableIn w n) (accepted-facts w n A) startState start-good p)

@@ -1,18 +1,20 @@
 -- When the variable of the entry on top of the tape is bound at the node, as rule 4 asks: before each step, and after each step back.
 use mathlib.Core.Path.{_≡_, refl, sym, ap, _∙_, subst}
-use mathlib.Core.Bool.{Bool, true, false, and-eq-true-iff, false≢true}
+use mathlib.Core.Bool.{true, and-eq-true-iff, false≢true}
 use mathlib.Core.Option.{some, Option·none-ne-some}
 use mathlib.Core.List.{[], _∷_}
 use Prim.Native.Nat.{ℕ}
 use lib.Dec.{leb, eqb}
 use Rattle.term.specs.Table.{Table, arity, Kind, variable, abstraction, application, nothing, kindAt, Place, bodyOf, functionOf, argumentOf, nowhere, placeAt}
 use Rattle.term.specs.Facts.{Facts}
+use Rattle.term.proofs.Choice.{passes}
 use Rattle.machine.specs.Entries.{entry, Log, ε, _▸_, howMany, bullet, held, Tape}
 use Rattle.machine.specs.Machine.{Dir, down, up, State, state, isVariable, boundAt, goDown, goUp, stepBy, step, turned, stepBack}
 use Rattle.machine.proofs.Tests.{bound-at}
 use Rattle.machine.proofs.Nodes.{Placed, placed}
 use Rattle.machine.proofs.Reverse.{step-turned}
-use Rattle.machine.proofs.Stuck.{Stuck, stuck-unbound, Led, led-test}
+use Rattle.machine.proofs.Stuck.{Stuck, stuck-unbound}
+use Rattle.machine.proofs.Led.{Led, led-test}
 
 abbrev pub TopBound : Table → ℕ → Tape → Type 0
 TopBound T i [] = Unit
@@ -23,16 +25,12 @@ TopBound T i (held (entry v es) ∷ t) = boundAt T i v ≡ true
 abbrev pub BoundHere : Table → State → Type 0
 BoundHere T s = s .dir ≡ down → kindAt T (s .node) ≡ abstraction → TopBound T (s .node) (s .tape)
 
-pub is-true : (b : Bool) → ¬ (b ≡ false) → b ≡ true
-is-true true h = refl
-is-true false h = absurd (h refl)
-
 module _ (T : Table) where
   top-bound : (i : ℕ) (d : Dir) (L : Log) (t : Tape) → ¬ (Stuck T (state i d L t)) → d ≡ down → kindAt T i ≡ abstraction → TopBound T i t
   top-bound i d L [] n c k = tt
   top-bound i d L (bullet ∷ t) n c k = tt
   top-bound i d L (held (entry v es) ∷ t) n c k =
-      is-true (boundAt T i v) (λ z. n (ap (λ e. step T (state i e L (held (entry v es) ∷ t))) c ∙ stuck-unbound T i L t v es k z))
+      passes (boundAt T i v) (λ z. n (ap (λ e. step T (state i e L (held (entry v es) ∷ t))) c ∙ stuck-unbound T i L t v es k z))
 
   pub step-bound : (s u : State) → step T s ≡ some u → BoundHere T s
   step-bound s u e = top-bound (s .node) (s .dir) (s .log) (s .tape) (λ z. Option·none-ne-some u (sym z ∙ e))

@@ -20,7 +20,8 @@ use Rattle.machine.proofs.Nodes.{Placed, placed}
 use Rattle.machine.proofs.Rules.{rule-1, rule-2, rule-3, rule-4, rule-5, rule-6, rule-7, rule-8}
 use Rattle.machine.proofs.Reverse.{turn-good, keeps-good, step-undone, step-turned-back}
 use Rattle.machine.proofs.After.{after-good}
-use Rattle.machine.proofs.Stuck.{Stuck, stuck-answer, Led, led-test}
+use Rattle.machine.proofs.Stuck.{Stuck, stuck-answer}
+use Rattle.machine.proofs.Led.{Led, led-test}
 use Rattle.machine.proofs.Bound.{TopBound, BoundHere}
 use Rattle.machine.proofs.Origins.{Reach, here, further, facing, over, Traced, at-root, at-body, at-function, at-argument, Origin, On, on-top, further-down, TapeKept, Kept, higher, traced-binder}
 

@@ -1,6 +1,5 @@
 -- No step lengthens both lists, and no step back does: what one gains in words, the other has given.
 use mathlib.Core.Path.{_≡_, sym, ap, _∙_, subst}
-use mathlib.Core.Bool.{Bool, true, false, cond}
 use mathlib.Core.Option.{Option, none, some, Option·map}
 use mathlib.Core.List.{[], _∷_}
 use Prim.Native.Nat.{ℕ, _+_, _≤_}
@@ -11,15 +10,12 @@ use Rattle.term.specs.Table.{Table, arity, Kind, variable, abstraction, applica
 use Rattle.machine.specs.Entries.{entry, Log, ε, _▸_, howMany, topmost, rest, bullet, held, Tape, entryWords, logWords, tapeWords}
 use Rattle.machine.specs.Machine.{Dir, down, up, State, state, boundAt, goDown, goUp, stepBy, step, turned, turn, stepBack}
 use Rattle.machine.proofs.Logs.{topmost-rest, words-onto}
+use Rattle.machine.proofs.Led.{Led, led-test}
 
 -- of the lists of s, at most one is longer in u
 pub data NotBoth (s u : State) : Type 0 where
   log-no-longer : length (logWords (u .log)) ≤ length (logWords (s .log)) → NotBoth s u
   tape-no-longer : length (tapeWords (u .tape)) ≤ length (tapeWords (s .tape)) → NotBoth s u
-
-abbrev NotBothIf : State → Option State → Type 0
-NotBothIf s none = Unit
-NotBothIf s (some u) = NotBoth s u
 
 pub rest-no-longer : (a : ℕ) (L : Log) → length (logWords (rest a L)) ≤ length (logWords L)
 rest-no-longer a L =
@@ -27,20 +23,16 @@ rest-no-longer a L =
     = ap (λ M. length (logWords M)) (sym (topmost-rest a L)) ∙ ap length (words-onto (topmost a L) (rest a L)) ∙ length-append (logWords (topmost a L)) (logWords (rest a L)) in
     omega arith
 
-on-test : (b : Bool) {s u : State} → NotBoth s u → NotBothIf s (cond b (some u) none)
-on-test true h = h
-on-test false h = tt
-
-by-kind : (T : Table) (i : ℕ) (L : Log) (t : Tape) (k : Kind) → NotBothIf (state i down L t) (goDown T i k L t)
+by-kind : (T : Table) (i : ℕ) (L : Log) (t : Tape) (k : Kind) → Led (NotBoth (state i down L t)) (goDown T i k L t)
 unfolding goDown
 by-kind T i L t application = log-no-longer (omega arith)
 by-kind T i L [] abstraction = tt
 by-kind T i L (bullet ∷ t) abstraction = log-no-longer (omega arith)
-by-kind T i L (held (entry v es) ∷ t) abstraction = on-test (boundAt T i v) (tape-no-longer (omega (arith, length-append (v ∷ logWords es) (tapeWords t))))
-by-kind T i L t variable = on-test (leb (arity T i) (howMany L)) (log-no-longer (search rest-no-longer))
+by-kind T i L (held (entry v es) ∷ t) abstraction = led-test (NotBoth _) (boundAt T i v) _ (λ b. tape-no-longer (omega (arith, length-append (v ∷ logWords es) (tapeWords t))))
+by-kind T i L t variable = led-test (NotBoth _) (leb (arity T i) (howMany L)) _ (λ b. log-no-longer (rest-no-longer (arity T i) L))
 by-kind T i L t nothing = tt
 
-by-place : (T : Table) (i : ℕ) (L : Log) (t : Tape) (q : Place) → NotBothIf (state i up L t) (goUp T q L t)
+by-place : (T : Table) (i : ℕ) (L : Log) (t : Tape) (q : Place) → Led (NotBoth (state i up L t)) (goUp T q L t)
 unfolding goUp
 by-place T i L [] (functionOf p) = tt
 by-place T i L (bullet ∷ t) (functionOf p) = log-no-longer (omega arith)
@@ -50,20 +42,20 @@ by-place T i ε t (argumentOf p) = tt
 by-place T i (e ▸ L) t (argumentOf p) = log-no-longer (omega (arith, length-append (entryWords e) (logWords L)))
 by-place T i L t nowhere = tt
 
-by-step : (T : Table) (i : ℕ) (d : Dir) (L : Log) (t : Tape) → NotBothIf (state i d L t) (stepBy T i d L t)
+by-step : (T : Table) (i : ℕ) (d : Dir) (L : Log) (t : Tape) → Led (NotBoth (state i d L t)) (stepBy T i d L t)
 unfolding stepBy
 by-step T i down L t = by-kind T i L t (kindAt T i)
 by-step T i up L t = by-place T i L t (placeAt T i)
 
 pub never-both : (T : Table) (s u : State) → step T s ≡ some u → NotBoth s u
-never-both T s u e = subst (NotBothIf s) e (by-step T (s .node) (s .dir) (s .log) (s .tape))
+never-both T s u e = subst (Led (NotBoth s)) e (by-step T (s .node) (s .dir) (s .log) (s .tape))
 
 -- A step back is a step between turned states, whose lists are the same.
-turned-not-both : (s : State) (o : Option State) → NotBothIf (turn s) o → NotBothIf s (Option·map turn o)
+turned-not-both : (s : State) (o : Option State) → Led (NotBoth (turn s)) o → Led (NotBoth s) (Option·map turn o)
 turned-not-both s none h = tt
 turned-not-both s (some u) (log-no-longer h) = log-no-longer h
 turned-not-both s (some u) (tape-no-longer h) = tape-no-longer h
 
 pub back-never-both : (T : Table) (s u : State) → stepBack T s ≡ some u → NotBoth s u
 back-never-both T s u e =
-    subst (NotBothIf s) e (turned-not-both s (step T (turn s)) (by-step T (s .node) (turned (s .dir)) (s .log) (s .tape)))
+    subst (Led (NotBoth s)) e (turned-not-both s (step T (turn s)) (by-step T (s .node) (turned (s .dir)) (s .log) (s .tape)))

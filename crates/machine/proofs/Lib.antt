@@ -3,6 +3,7 @@ pub mod Logs
 pub mod Tests
 pub mod Nodes
 pub mod Rules
+pub mod Led
 pub mod Reverse
 pub mod Lengths
 pub mod Load

@@ -17,6 +17,7 @@ use Rattle.machine.proofs.Logs.{topmost-rest, topmost-onto, rest-onto, 
 use Rattle.machine.proofs.Tests.{bound-at, bound-is}
 use Rattle.machine.proofs.Rules.{rule-1, rule-2, rule-3, rule-4, rule-5, rule-6, rule-7, rule-8}
 use Rattle.machine.proofs.Nodes.{is-node, Placed, placed}
+use Rattle.machine.proofs.Led.{Led}
 
 -- Turning twice changes nothing, and a turned state is as good.
 pub turned-twice : (d : Dir) → turned (turned d) ≡ d
@@ -34,14 +35,10 @@ record Undone (T : Table) (s u : State) : Type 0 where
   back : step T (turn u) ≡ some (turn s)
   good : Good T u
 
-abbrev UndoneIf : Table → State → Option State → Type 0
-UndoneIf T s none = Unit
-UndoneIf T s (some u) = Undone T s u
-
 module _ (T : Table) (F : Facts T) where
   -- rules 3 and 4 undo each other; their tests came out as b
   undone-3 : (i : ℕ) (L : Log) (t : Tape) (b : Bool) → (b ≡ true → arity T i ≤ howMany L) → kindAt T i ≡ variable → Good T (state i down L t)
-      → UndoneIf T (state i down L t) (cond b (some (state (T .left i) up (rest (arity T i) L) (held (entry i (topmost (arity T i) L)) ∷ t))) none)
+      → Led (Undone T (state i down L t)) (cond b (some (state (T .left i) up (rest (arity T i) L) (held (entry i (topmost (arity T i) L)) ∷ t))) none)
   undone-3 i L t false h k g = tt
   undone-3 i L t true h k g = record {
     back =
@@ -59,7 +56,7 @@ module _ (T : Table) (F : Facts T) where
   }
 
   undone-4 : (i v : ℕ) (es L : Log) (t : Tape) (b : Bool) → (b ≡ true → T .left v ≡ i) → Good T (state i down L (held (entry v es) ∷ t))
-      → UndoneIf T (state i down L (held (entry v es) ∷ t)) (cond b (some (state v up (es onto L) t)) none)
+      → Led (Undone T (state i down L (held (entry v es) ∷ t))) (cond b (some (state v up (es onto L) t)) none)
   undone-4 i v es L t false h g = tt
   undone-4 i v es L t true h g = record {
     back =
@@ -84,7 +81,7 @@ module _ (T : Table) (F : Facts T) where
       m : howMany es ≡ arity T v
       m = g .tape-items .0 .1
 
-  undone-down : (i : ℕ) (L : Log) (t : Tape) (k : Kind) → kindAt T i ≡ k → Good T (state i down L t) → UndoneIf T (state i down L t) (goDown T i k L t)
+  undone-down : (i : ℕ) (L : Log) (t : Tape) (k : Kind) → kindAt T i ≡ k → Good T (state i down L t) → Led (Undone T (state i down L t)) (goDown T i k L t)
   unfolding goDown
   undone-down i L t application e g = record {
     back = rule-5 T (T .left i) L t (F .function i e .place-is);
@@ -109,7 +106,7 @@ module _ (T : Table) (F : Facts T) where
   undone-down i L t variable e g = undone-3 i L t (leb (arity T i) (howMany L)) (leb-true (arity T i) (howMany L)) e g
   undone-down i L t nothing e g = tt
 
-  undone-up : (i : ℕ) (L : Log) (t : Tape) (q : Place) → Placed T i q → Good T (state i up L t) → UndoneIf T (state i up L t) (goUp T q L t)
+  undone-up : (i : ℕ) (L : Log) (t : Tape) (q : Place) → Placed T i q → Good T (state i up L t) → Led (Undone T (state i up L t)) (goUp T q L t)
   unfolding goUp
   undone-up i L [] (functionOf p) h g = tt
   undone-up i L (bullet ∷ t) (functionOf p) h g = record {
@@ -154,13 +151,13 @@ module _ (T : Table) (F : Facts T) where
   }
   undone-up i L t nowhere h g = tt
 
-  undone-by : (i : ℕ) (d : Dir) (L : Log) (t : Tape) → Good T (state i d L t) → UndoneIf T (state i d L t) (stepBy T i d L t)
+  undone-by : (i : ℕ) (d : Dir) (L : Log) (t : Tape) → Good T (state i d L t) → Led (Undone T (state i d L t)) (stepBy T i d L t)
   unfolding stepBy
   undone-by i down L t g = undone-down i L t (kindAt T i) refl g
   undone-by i up L t g = undone-up i L t (placeAt T i) (placed T i) g
 
   undone : (s u : State) → Good T s → step T s ≡ some u → Undone T s u
-  undone s u g e = subst (UndoneIf T s) e (undone-by (s .node) (s .dir) (s .log) (s .tape) g)
+  undone s u g e = subst (Led (Undone T s)) e (undone-by (s .node) (s .dir) (s .log) (s .tape) g)
 
   pub keeps-good : (s u : State) → Good T s → step T s ≡ some u → Good T u
   keeps-good s u g e = undone s u g e .good

@@ -1,7 +1,7 @@
--- States that have no rule, and what holds of the state that a step leads to, if there is one.
-use mathlib.Core.Path.{_≡_, refl}
-use mathlib.Core.Bool.{Bool, true, false, cond}
-use mathlib.Core.Option.{Option, none, some}
+-- States that have no rule.
+use mathlib.Core.Path.{_≡_}
+use mathlib.Core.Bool.{false}
+use mathlib.Core.Option.{none}
 use mathlib.Core.List.{[], _∷_}
 use Prim.Native.Nat.{ℕ}
 use lib.Dec.{leb}
@@ -37,12 +37,3 @@ module _ (T : Table) (i : ℕ) (L : Log) (t : Tape) where
   pub stuck-short : kindAt T i ≡ variable → leb (arity T i) (howMany L) ≡ false → Stuck T (state i down L t)
   unfolding goDown stepBy
   stuck-short k b = simp (k, b)
-
-abbrev pub Led : (State → Type 0) → Option State → Type 0
-Led P none = Unit
-Led P (some u) = P u
-
--- where a rule has a test, as rules 3 and 4
-pub led-test : (P : State → Type 0) (b : Bool) (u : State) → (b ≡ true → P u) → Led P (cond b (some u) none)
-led-test P true u h = h refl
-led-test P false u h = tt

@@ -7,12 +7,12 @@ use lib.Dec.{leb}
 use borrow.Author.Tests.{leb-true}
 use Rattle.term.specs.Term.{Term, var, lam, app}
 use Rattle.term.specs.Table.{Table, arity}
+use Rattle.term.proofs.Choice.{passes}
 use Rattle.machine.specs.Entries as Plain
 use Rattle.machine.specs.Entries.{entry, _▸_}
 use Rattle.machine.specs.Machine as Machine
 use Rattle.machine.specs.Machine.{Dir, down, up, boundAt, step}
 use Rattle.machine.proofs.Tests.{bound-is}
-use Rattle.machine.proofs.Bound.{is-true}
 use Rattle.machine.proofs.Stuck.{Stuck, stuck-answer, stuck-function, stuck-argument, stuck-root, stuck-unbound, stuck-short}
 use Rattle.published.specs.Figure.{Context, ⟨·⟩, lambda, left, right, level, _⟨_⟩, _⟪_⟫, boundAbove, logged, Log, ε, _·_, held, Tape, State, state, Transition, →•1, →•2, →var, →bt2, →•3, →•4, →arg, →bt1}
 use Rattle.published.specs.Represents.{FromBinder, LogIs, TapeIs, nothing-on, on-bullet, on-entry, Represents}
@@ -62,11 +62,11 @@ module _ (T : Table) (t : Term) (A : IsTable T t) where
   moves-down (lam b) C L R M S e l nothing-on n = absurd (n (stuck-answer T (nodeOf C) M [] (abstraction-kind T t A C b e)))
   moves-down (lam b) C L R M S e l (on-bullet h) n = (_, →•2 C)
   moves-down (lam b) C L R M S e l (on-entry {e = entry v es} {l = logged x K N} {S = S′} {T = R′} g h) n =
-      moves-held C b L R′ v x K N e (g .0) (bound-is T (nodeOf C) v (is-true (boundAt T (nodeOf C) v) (λ z. n (stuck-unbound T (nodeOf C) M S′ v es (abstraction-kind T t A C b e) z))))
+      moves-held C b L R′ v x K N e (g .0) (bound-is T (nodeOf C) v (passes (boundAt T (nodeOf C) v) (λ z. n (stuck-unbound T (nodeOf C) M S′ v es (abstraction-kind T t A C b e) z))))
   moves-down (var x) C {m} L R M S e l h n =
       moves-variable C x L R e (subst (λ k. arity T (nodeOf C) ≤ k) (same-many t M L l)
       (leb-true (arity T (nodeOf C)) (Plain.howMany M)
-      (is-true (leb (arity T (nodeOf C)) (Plain.howMany M)) (λ z. n (stuck-short T (nodeOf C) M S (variable-kind T t A C x e) z)))))
+      (passes (leb (arity T (nodeOf C)) (Plain.howMany M)) (λ z. n (stuck-short T (nodeOf C) M S (variable-kind T t A C x e) z)))))
 
   moves-up : (u : Term) (C : Context) {m : ℕ} (L : Log m) (R : Tape) (M : Plain.Log) (S : Plain.Tape) → Inner C → C ⟨ u ⟩ ≡ t → LogIs t M L → TapeIs t S R
       → ¬ (Stuck T (Machine.state (nodeOf C) up M S)) → Moves (state u C L R up)

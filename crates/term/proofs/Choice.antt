@@ -15,6 +15,10 @@ pub fails : (b : Bool) → (b ≡ true → ⊥) → b ≡ false
 fails true h = absurd (h refl)
 fails false h = refl
 
+pub passes : (b : Bool) → (b ≡ false → ⊥) → b ≡ true
+passes true h = refl
+passes false h = absurd (h refl)
+
 module _ {A : Type 0} where
   pub passed : (b : Bool) (x y : A) → b ≡ true → cond b x y ≡ x
   passed b x y e = ap (λ c. cond c x y) e
