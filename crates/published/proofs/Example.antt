@@ -6,11 +6,11 @@ use Rattle.machine.specs.Machine.{down, up}
 use Rattle.published.specs.Figure.{Context, ⟨·⟩, lambda, left, right, LoggedPosition, logged, ε, _·_, held, State, state, initial, Transition, →•1, →•2, →var, →bt2, →arg, →bt1, Run, more}
 
 infixl 20 _then_
-abbrev I : Term
+abbrev pub I : Term
 I = lam (var 0)
 
 -- λx.xx
-abbrev D : Term
+abbrev pub D : Term
 D = lam (app (var 0) (var 0))
 
 -- I(⟨·⟩I) and I((λx.xx)⟨·⟩)
@@ -20,17 +20,17 @@ function = right I (left ⟨·⟩ I)
 abbrev argument : Context
 argument = right I (right D ⟨·⟩)
 
--- l_z (which is printed with z's whole context; →var makes it of the part from λz on), l_⟨·⟩x, l_y and l_x⟨·⟩
+-- l_z (which is printed with z's whole context; →var makes it of the part from λz on), l_⟨·⟩x, l_y and l_x⟨·⟩. Without names l_z and l_y are the same.
 abbrev l-z : LoggedPosition
 l-z = logged (var 0) (lambda ⟨·⟩) ε
 
-abbrev l-x₁ : LoggedPosition
+abbrev pub l-x₁ : LoggedPosition
 l-x₁ = logged (var 0) (lambda (left ⟨·⟩ (var 0))) ε
 
-abbrev l-y : LoggedPosition
+abbrev pub l-y : LoggedPosition
 l-y = logged (var 0) (lambda ⟨·⟩) ε
 
-abbrev l-x₂ : LoggedPosition
+abbrev pub l-x₂ : LoggedPosition
 l-x₂ = logged (var 0) (lambda (right (var 0) ⟨·⟩)) (l-y · ε)
 
 -- Where each printed part ends: down at z; up at λy.y; down at the second x; down at λy.y, which is the answer.

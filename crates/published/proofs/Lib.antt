@@ -4,11 +4,12 @@ pub mod Binder
 pub mod Found
 pub mod Positions
 pub mod Logs
-pub mod Turned
+pub mod Backward
 pub mod Steps
 pub mod Moves
 pub mod Next
 pub mod OneState
 pub mod Published
 pub mod Example
+pub mod Stands
 pub mod Relative

@@ -6,47 +6,10 @@ use Prim.Native.Nat.{ℕ}
 use Rattle.term.specs.Term.{Term, var, lam, app}
 use Rattle.machine.specs.Machine.{Dir, down, up}
 use Rattle.published.specs.Figure.{Context, ⟨·⟩, lambda, left, right, level, _⟨_⟩, _⟪_⟫, binders, logged, Log, ε, _·_, _··_, •, held, Tape, State, state, Transition, →•1, →•2, →var, →bt2, →•3, →•4, →arg, →bt1, Run, more}
+use Rattle.published.proofs.Contexts.{Inner, whole, body, function, argument, inner, inner-body, inner-function, inner-argument}
 use Rattle.published.proofs.Binder.{below, around, below-is, around-is}
 use Rattle.published.proofs.Logs.{Parts, partsOf, parts-are}
-use Rattle.published.proofs.Turned.{turn, turn-twice, turned-back}
-
--- What is around the hole right away, and the context further out.
-data Last : Type 0 where
-  nothing : Last
-  body : Context → Last
-  function : Context → Term → Last
-  argument : Context → Term → Last
-
--- a hole within a hole: `here` where the inner context is the hole itself, and else `outer` put around the further one
-abbrev within : (Context → Context) → Last → Last → Last
-within outer here nothing = here
-within outer here (body K) = body (outer K)
-within outer here (function K u) = function (outer K) u
-within outer here (argument K u) = argument (outer K) u
-
-abbrev last : Context → Last
-last ⟨·⟩ = nothing
-last (lambda C) = within lambda (body ⟨·⟩) (last C)
-last (left C t) = within (λ K. left K t) (function ⟨·⟩ t) (last C)
-last (right t C) = within (right t) (argument ⟨·⟩ t) (last C)
-
-last-body : (K : Context) → last (K ⟪ lambda ⟨·⟩ ⟫) ≡ body K
-last-body ⟨·⟩ = refl
-last-body (lambda K) = ap (within lambda (body ⟨·⟩)) (last-body K)
-last-body (left K t) = ap (within (λ C. left C t) (function ⟨·⟩ t)) (last-body K)
-last-body (right t K) = ap (within (right t) (argument ⟨·⟩ t)) (last-body K)
-
-last-function : (K : Context) (u : Term) → last (K ⟪ left ⟨·⟩ u ⟫) ≡ function K u
-last-function ⟨·⟩ u = refl
-last-function (lambda K) u = ap (within lambda (body ⟨·⟩)) (last-function K u)
-last-function (left K t) u = ap (within (λ C. left C t) (function ⟨·⟩ t)) (last-function K u)
-last-function (right t K) u = ap (within (right t) (argument ⟨·⟩ t)) (last-function K u)
-
-last-argument : (K : Context) (u : Term) → last (K ⟪ right u ⟨·⟩ ⟫) ≡ argument K u
-last-argument ⟨·⟩ u = refl
-last-argument (lambda K) u = ap (within lambda (body ⟨·⟩)) (last-argument K u)
-last-argument (left K t) u = ap (within (λ C. left C t) (function ⟨·⟩ t)) (last-argument K u)
-last-argument (right t K) u = ap (within (right t) (argument ⟨·⟩ t)) (last-argument K u)
+use Rattle.published.proofs.Backward.{turn, turn-twice, turned-back}
 
 -- The state that a transition leads to, if one applies.
 abbrev toBinder : ℕ → Context → (D : Context) → Tape → Parts (level D) → State
@@ -59,18 +22,18 @@ nextDown (lam t) C L (• ∷ T) = some (state t (C ⟪ lambda ⟨·⟩ ⟫) L T
 nextDown (lam t) C L (held (logged x K M) ∷ T) = some (state x (C ⟪ K ⟫) (M ·· L) T up)
 nextDown (var x) C L T = Option·map (toBinder x (around C x) (below C x) T) (partsOf (level (below C x)) L)
 
-abbrev nextUp : Term → Last → {m : ℕ} → Log m → Tape → Option State
-nextUp t nothing L T = none
-nextUp t (body C) L T = some (state (lam t) C L (• ∷ T) up)
-nextUp t (function C u) L [] = none
-nextUp t (function C u) L (• ∷ T) = some (state (app t u) C L T up)
-nextUp t (function C u) L (held l ∷ T) = some (state u (C ⟪ right t ⟨·⟩ ⟫) (l · L) T down)
-nextUp t (argument C u) ε T = none
-nextUp t (argument C u) (l · L) T = some (state u (C ⟪ left ⟨·⟩ t ⟫) L (held l ∷ T) down)
+abbrev nextUp : Term → (C : Context) → Inner C → {m : ℕ} → Log m → Tape → Option State
+nextUp t C whole L T = none
+nextUp t C (body K) L T = some (state (lam t) K L (• ∷ T) up)
+nextUp t C (function K u) L [] = none
+nextUp t C (function K u) L (• ∷ T) = some (state (app t u) K L T up)
+nextUp t C (function K u) L (held l ∷ T) = some (state u (K ⟪ right t ⟨·⟩ ⟫) (l · L) T down)
+nextUp t C (argument K u) ε T = none
+nextUp t C (argument K u) (l · L) T = some (state u (K ⟪ left ⟨·⟩ t ⟫) L (held l ∷ T) down)
 
 abbrev nextBy : Term → Context → {m : ℕ} → Log m → Tape → Dir → Option State
 nextBy t C L T down = nextDown t C L T
-nextBy t C L T up = nextUp t (last C) L T
+nextBy t C L T up = nextUp t C (inner C) L T
 
 abbrev next : State → Option State
 next P = nextBy (P .term) (P .context) (P .log) (P .tape) (P .dir)
@@ -82,10 +45,10 @@ next-is (→var C D {Lₙ = K} {L = L} {T = T}) =
     ap₂ (λ A B. Option·map (toBinder (binders D) A B T) (partsOf (level B) (K ·· L))) (around-is C D) (below-is C D)
     ∙ ap (Option·map (toBinder (binders D) C D T)) (parts-are K L)
 next-is (→bt2 C D) = refl
-next-is (→•3 C {t = t} {u = u} {L = L} {T = T}) = ap (λ k. nextUp t k L (• ∷ T)) (last-function C u)
-next-is (→•4 C {t = t} {L = L} {T = T}) = ap (λ k. nextUp t k L T) (last-body C)
-next-is (→arg C {t = t} {u = u} {l = l} {L = L} {T = T}) = ap (λ k. nextUp t k L (held l ∷ T)) (last-function C u)
-next-is (→bt1 C {t = t} {u = u} {l = l} {L = L} {T = T}) = ap (λ k. nextUp t k (l · L) T) (last-argument C u)
+next-is (→•3 C {t = t} {u = u} {L = L} {T = T}) = ap (λ k. nextUp t (C ⟪ left ⟨·⟩ u ⟫) k L (• ∷ T)) (inner-function C u)
+next-is (→•4 C {t = t} {L = L} {T = T}) = ap (λ k. nextUp t (C ⟪ lambda ⟨·⟩ ⟫) k L T) (inner-body C)
+next-is (→arg C {t = t} {u = u} {l = l} {L = L} {T = T}) = ap (λ k. nextUp t (C ⟪ left ⟨·⟩ u ⟫) k L (held l ∷ T)) (inner-function C u)
+next-is (→bt1 C {t = t} {u = u} {l = l} {L = L} {T = T}) = ap (λ k. nextUp t (C ⟪ right u ⟨·⟩ ⟫) k (l · L) T) (inner-argument C u)
 
 -- Two transitions from one state lead to one state, and two that lead to one state come from one.
 pub deterministic : {P Q R : State} → Transition P Q → Transition P R → Q ≡ R

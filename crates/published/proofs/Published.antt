@@ -19,7 +19,7 @@ use Rattle.machine.proofs.Kept.{after-bound}
 use Rattle.published.specs.Figure.{level, State, initial, Transition, Final, Run, more}
 use Rattle.published.specs.Represents.{nothing-on, Represents, rule}
 use Rattle.published.proofs.Positions.{IsTable, accepted-table}
-use Rattle.published.proofs.Turned.{turn, turn-twice, turned-back}
+use Rattle.published.proofs.Backward.{turn, turn-twice, turned-back}
 use Rattle.published.proofs.Steps.{Leads, leads, same-next}
 use Rattle.published.proofs.Moves.{moves}
 use Rattle.published.proofs.OneState.{one-state, a-state, level-many}
