@@ -49,17 +49,21 @@ module _ (g : Given) (k : ℕ) where
       let r : Room = room (g .log) (g .tape) in
       unchanged (callNumber g) (stateGiven g) g (λ m. wind way T r c m) (λ m. wind-is-stop way T r c m) k e
 
+  -- what holds of forward and of back by a count holds of go-to
+  either-way : (P : Outcome → Type 0) (b : Bool) (x y : Unit {0} → Outcome) → ((i : Unit {0}) → P (x i)) → ((i : Unit {0}) → P (y i)) → P (choose b x y)
+  either-way P true x y f h = f tt
+  either-way P false x y f h = h tt
+
+  pub move-refused : (m : Move) → callNumber g ≡ some k → (c : ℕ) → outcomeOf m g c ≡ refusedOutcome k g
+  unfolding goToOf
+  move-refused (by way) e c = wind-refused way e c
+  move-refused go-to e q = either-way (λ o. o ≡ refusedOutcome k g) (leb (g .session .position) q) _ _ (λ i. wind-refused forward e _) (λ i. wind-refused back e _)
+
   pub refused-unchanged : (m : Move) (c : ℕ) → outcomeOf m g c .stop ≡ refused k → RefusedCall g (outcomeOf m g c)
   unfolding goToOf
   refused-unchanged (by way) c e = wind-unchanged way c e
-  refused-unchanged go-to q e = by-side (leb (g .session .position) q) _ _ (λ i. wind-unchanged forward _) (λ i. wind-unchanged back _) e
-    where
-      Same : Outcome → Type 0
-      Same o = o .stop ≡ refused k → RefusedCall g o
-
-      by-side : (b : Bool) (x y : Unit {0} → Outcome) → ((i : Unit {0}) → Same (x i)) → ((i : Unit {0}) → Same (y i)) → Same (choose b x y)
-      by-side true x y f h = f tt
-      by-side false x y f h = h tt
+  refused-unchanged go-to q e =
+      either-way (λ o. o .stop ≡ refused k → RefusedCall g o) (leb (g .session .position) q) _ _ (λ i. wind-unchanged forward _) (λ i. wind-unchanged back _) e
 
 -- A call that enters at a state winds from it.
 module _ (g : Given) (s : State) (h : Enters g s) where
