@@ -1,0 +1,101 @@
+-- Nothing is lost in numbers: no two directions, sessions, stops or answers are told alike.
+use mathlib.Core.Path.{_≡_, refl, sym, ap, _∙_}
+use mathlib.Core.Option.{none, some, Option·some-injective, Option·none-ne-some}
+use mathlib.Core.List.{List}
+use Prim.Native.Nat.{ℕ, zero, suc, _<_}
+use native.Mathlib.Omega.{arith}
+use Rattle.text.specs.Reading.{Read}
+use Rattle.machine.specs.Machine.{Dir, down, up}
+use Rattle.calls.specs.Session.{Session, Stop, spent, jam, far, start, logFull, tapeFull, answer, refused, Opening, Outcome, Given}
+use Rattle.face.specs.declared.HostSession.{HostSession}
+use Rattle.face.specs.Numbers.{dirNumber, dirIn, sessionNumbers, sessionIn, stopCode, stopValue}
+use Rattle.face.specs.Told.{readTold, openTold, outcomeTold, called}
+
+-- Directions.
+
+pub dir-told : (d : Dir) → dirIn (dirNumber d) ≡ some d
+dir-told down = refl
+dir-told up = refl
+
+pub directions-injective : (d e : Dir) → dirNumber d ≡ dirNumber e → d ≡ e
+directions-injective d e h = Option·some-injective d e (sym (dir-told d) ∙ ap dirIn h ∙ dir-told e)
+
+pub no-direction : (k : ℕ) → 1 < k → dirIn k ≡ none
+no-direction zero h = absurd (omega (arith, h))
+no-direction (suc zero) h = absurd (omega (arith, h))
+no-direction (suc (suc k)) h = refl
+
+-- a host's numbers with another direction
+abbrev pub toward : HostSession → ℕ → HostSession
+toward s d = record { node = s .node; direction = d; position = s .position; «log_len» = s .«log_len»; «tape_len» = s .«tape_len» }
+
+-- Sessions: a session told and read again is the same,
+
+pub session-told : (s : Session) → sessionIn (sessionNumbers s) ≡ some s
+session-told s = by-dir (s .dir) refl
+  where
+    by-dir : (d : Dir) → s .dir ≡ d → sessionIn (sessionNumbers s) ≡ some s
+    by-dir down e = rw e
+    by-dir up e = rw e
+
+pub sessions-injective : (s t : Session) → sessionNumbers s ≡ sessionNumbers t → s ≡ t
+sessions-injective s t h = Option·some-injective s t (sym (session-told s) ∙ ap sessionIn h ∙ session-told t)
+
+-- and so are a host's numbers that stand for one.
+pub numbers-told : (s : HostSession) (se : Session) → sessionIn s ≡ some se → sessionNumbers se ≡ s
+numbers-told s se e = by-direction (s .direction) e
+  where
+    by-direction : (d : ℕ) → sessionIn (toward s d) ≡ some se → sessionNumbers se ≡ toward s d
+    by-direction zero h = sym (ap sessionNumbers (Option·some-injective _ se h))
+    by-direction (suc zero) h = sym (ap sessionNumbers (Option·some-injective _ se h))
+    by-direction (suc (suc k)) h = absurd (Option·none-ne-some se h)
+
+-- So a call on the numbers that another told is the call on its session.
+pub told-again : (call : Given → Outcome) (w : List ℕ) (n : ℕ) (se : Session) (ls ts : List ℕ)
+    → called call w n (sessionNumbers se) ls ts ≡ outcomeTold (call (record { table = w; n = n; session = se; log = ls; tape = ts }))
+unfolding called
+told-again call w n se ls ts = rw (session-told se)
+
+-- Stops: what a code and a value are read as, the codes counted down.
+abbrev orElse : Stop → (ℕ → Stop) → ℕ → Stop
+orElse x later zero = x
+orElse x later (suc c) = later c
+
+abbrev stopIn : ℕ → ℕ → Stop
+stopIn c v = orElse spent (orElse (answer v) (orElse jam (orElse far (orElse start (orElse logFull (orElse tapeFull (λ _. refused v))))))) c
+
+stop-told : (x : Stop) → stopIn (stopCode x) (stopValue x) ≡ x
+stop-told spent = refl
+stop-told (answer i) = refl
+stop-told jam = refl
+stop-told far = refl
+stop-told start = refl
+stop-told logFull = refl
+stop-told tapeFull = refl
+stop-told (refused k) = refl
+
+pub codes-injective : (x y : Stop) → stopCode x ≡ stopCode y → stopValue x ≡ stopValue y → x ≡ y
+codes-injective x y h k = sym (stop-told x) ∙ (λ i. stopIn (h i) (k i)) ∙ stop-told y
+
+-- Answers, with the slices after the call.
+
+pub readings-injective : (r s : Read) → readTold r ≡ readTold s → r ≡ s
+readings-injective r s h = λ i. record { n = h i .0 .n; refusal = h i .0 .refusal; table = h i .1 }
+
+pub openings-injective : (o p : Opening) → openTold o ≡ openTold p → o ≡ p
+openings-injective o p h = λ i. record {
+  session = sessions-injective (o .session) (p .session) (λ j. h j .0 .session) i;
+  refusal = h i .0 .refusal;
+  log = h i .1;
+  tape = h i .2;
+}
+
+pub outcomes-injective : (o p : Outcome) → outcomeTold o ≡ outcomeTold p → o ≡ p
+outcomes-injective o p h = λ i. record {
+  session = sessions-injective (o .session) (p .session) (λ j. h j .0 .session) i;
+  steps = h i .0 .steps;
+  stop = codes-injective (o .stop) (p .stop) (λ j. h j .0 .stop) (λ j. h j .0 .value) i;
+  peak = h i .0 .peak;
+  log = h i .1;
+  tape = h i .2;
+}

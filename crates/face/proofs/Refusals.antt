@@ -1,0 +1,84 @@
+-- Refusals: a direction above 1 is a 9, after 7 and 8; and every refused call gives the numbers back as they were given, with every lent word.
+use mathlib.Core.Path.{_≡_, refl, ap, _∙_}
+use mathlib.Core.Bool.{Bool, true, false}
+use mathlib.Core.Option.{Option, none, some}
+use mathlib.Core.List.{List}
+use Prim.Native.Nat.{ℕ, _≤_, _<_}
+use native.Mathlib.Omega.{arith}
+use lib.ListN.{length}
+use Rattle.term.specs.Accepted.{Accepted, accepted}
+use Rattle.term.proofs.Accepted.{accepts-all, accepts-only}
+use Rattle.calls.specs.Session.{Session, Stop, spent, jam, far, start, logFull, tapeFull, answer, refused, Outcome, Given}
+use Rattle.calls.specs.Calls.{longest, lentNumber}
+use Rattle.calls.specs.Demand.{Move, outcomeOf, RefusedCall}
+use Rattle.calls.proofs.Unrefused.{lent-seven, lent-log-eight, lent-tape-eight, lent-unrefused}
+use Rattle.calls.proofs.Answers.{refused-unchanged}
+use Rattle.face.specs.declared.HostSession.{HostSession}
+use Rattle.face.specs.Numbers.{sessionNumbers, sessionIn, stopCode, stopValue}
+use Rattle.face.specs.Told.{refusedTold, noSessionNumber, calledOn, called}
+use Rattle.face.proofs.Codes.{no-direction, numbers-told}
+
+-- A direction above 1, whatever the call.
+module _ (call : Given → Outcome) (w : List ℕ) (n : ℕ) (s : HostSession) (ls ts : List ℕ) (h : 1 < s .direction) where
+  pub direction-refused : called call w n s ls ts ≡ refusedTold (noSessionNumber w n ls ts) s ls ts
+  unfolding called
+  direction-refused = rw (no-direction (s .direction) h)
+
+  as-lent : (k : ℕ) → lentNumber w n ls ts ≡ some k → called call w n s ls ts ≡ refusedTold k s ls ts
+  as-lent k e = rw e at direction-refused
+
+  pub direction-seven : ¬ (Accepted w n) → called call w n s ls ts ≡ refusedTold 7 s ls ts
+  direction-seven unaccepted = by-table (accepted w n) refl
+    where
+      by-table : (b : Bool) → accepted w n ≡ b → called call w n s ls ts ≡ refusedTold 7 s ls ts
+      by-table true a = absurd (unaccepted (accepts-only w n a))
+      by-table false a = as-lent 7 (lent-seven w n ls ts a)
+
+  module _ (table : Accepted w n) where
+    pub direction-log-eight : longest < length ls → called call w n s ls ts ≡ refusedTold 8 s ls ts
+    direction-log-eight long = as-lent 8 (lent-log-eight w n ls ts (accepts-all w n table) long)
+
+    pub direction-tape-eight : longest < length ts → called call w n s ls ts ≡ refusedTold 8 s ls ts
+    direction-tape-eight long = as-lent 8 (lent-tape-eight w n ls ts (accepts-all w n table) long)
+
+    pub direction-nine : length ls ≤ longest → length ts ≤ longest → called call w n s ls ts ≡ refusedTold 9 s ls ts
+    direction-nine short-log short-tape =
+        rw (lent-unrefused w n ls ts (accepts-all w n table) short-log short-tape) at direction-refused
+
+-- Code 7 is a refusal's alone.
+code-7 : (x : Stop) → stopCode x ≡ 7 → x ≡ refused (stopValue x)
+code-7 spent e = absurd (omega (arith, e))
+code-7 (answer i) e = absurd (omega (arith, e))
+code-7 jam e = absurd (omega (arith, e))
+code-7 far e = absurd (omega (arith, e))
+code-7 start e = absurd (omega (arith, e))
+code-7 logFull e = absurd (omega (arith, e))
+code-7 tapeFull e = absurd (omega (arith, e))
+code-7 (refused k) e = refl
+
+-- Forward, back and go-to, whatever the number.
+module _ (m : Move) (c : ℕ) (w : List ℕ) (n : ℕ) (s : HostSession) (ls ts : List ℕ) where
+  on-session : (o : Option Session) → ((se : Session) → o ≡ some se → sessionNumbers se ≡ s) → calledOn o (λ g. outcomeOf m g c) w n s ls ts .0 .stop ≡ 7
+      → calledOn o (λ g. outcomeOf m g c) w n s ls ts ≡ refusedTold (calledOn o (λ g. outcomeOf m g c) w n s ls ts .0 .value) s ls ts
+  on-session none same e = refl
+  on-session (some se) same e =
+      let g : Given = record { table = w; n = n; session = se; log = ls; tape = ts } in
+      let o : Outcome = outcomeOf m g c in
+      let unchanged : RefusedCall g o = refused-unchanged g (stopValue (o .stop)) m c (code-7 (o .stop) e) in
+      λ i. (
+        record {
+          session = (ap sessionNumbers (unchanged .session-is) ∙ same se refl) i;
+          steps = unchanged .no-steps i;
+          stop = e i;
+          value = stopValue (o .stop);
+          value2 = 0;
+          peak = unchanged .no-peak i;
+        },
+        unchanged .log-is i,
+        unchanged .tape-is i,
+      )
+
+  pub refusal-gives-back : called (λ g. outcomeOf m g c) w n s ls ts .0 .stop ≡ 7
+      → called (λ g. outcomeOf m g c) w n s ls ts ≡ refusedTold (called (λ g. outcomeOf m g c) w n s ls ts .0 .value) s ls ts
+  unfolding called
+  refusal-gives-back e = on-session (sessionIn s) (numbers-told s) e

@@ -1,0 +1,56 @@
+-- Directions, sessions and stops in numbers, as a host in another language holds them (host/yildreuz.h).
+use mathlib.Core.Option.{Option, none, some}
+use Prim.Native.Nat.{ℕ, zero, suc}
+use Rattle.term.specs.Choice.{_>>=_}
+use Rattle.machine.specs.Machine.{Dir, down, up}
+use Rattle.calls.specs.Session.{Session, Stop, spent, jam, far, start, logFull, tapeFull, answer, refused}
+use Rattle.face.specs.declared.HostSession.{HostSession}
+
+-- A direction is 0 down, 1 up,
+abbrev pub dirNumber : Dir → ℕ
+dirNumber down = 0
+dirNumber up = 1
+
+-- and a greater number is no direction.
+abbrev pub dirIn : ℕ → Option Dir
+dirIn zero = some down
+dirIn (suc zero) = some up
+dirIn (suc (suc k)) = none
+
+-- A session in numbers,
+abbrev pub sessionNumbers : Session → HostSession
+sessionNumbers s = record {
+  node = s .node;
+  direction = dirNumber (s .dir);
+  position = s .position;
+  «log_len» = s .logLength;
+  «tape_len» = s .tapeLength;
+}
+
+-- and the session that numbers stand for, if their direction is one.
+abbrev pub sessionIn : HostSession → Option Session
+sessionIn s =
+    dirIn (s .direction) >>= λ d.
+    some (record { node = s .node; dir = d; position = s .position; logLength = s .«log_len»; tapeLength = s .«tape_len» })
+
+-- A stop is a code
+abbrev pub stopCode : Stop → ℕ
+stopCode spent = 0
+stopCode (answer i) = 1
+stopCode jam = 2
+stopCode far = 3
+stopCode start = 4
+stopCode logFull = 5
+stopCode tapeFull = 6
+stopCode (refused k) = 7
+
+-- and a value: the answer's node, the refusal's number, and 0 with every other.
+abbrev pub stopValue : Stop → ℕ
+stopValue spent = 0
+stopValue (answer i) = i
+stopValue jam = 0
+stopValue far = 0
+stopValue start = 0
+stopValue logFull = 0
+stopValue tapeFull = 0
+stopValue (refused k) = k

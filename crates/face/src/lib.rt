@@ -1,0 +1,37 @@
+// What a host in another language holds and gets, in numbers: the structs of host/yildreuz.h.
+
+// What the reader answers. A refusal of 0 is none.
+#[repr(C)]
+pub struct HostReading {
+    pub n: u32,
+    pub refusal: u32,
+}
+
+// Direction: 0 is down, 1 is up.
+#[repr(C)]
+pub struct HostSession {
+    pub node: u32,
+    pub direction: u32,
+    pub position: u32,
+    pub log_len: u32,
+    pub tape_len: u32,
+}
+
+// What open answers. A refusal of 0 is none.
+#[repr(C)]
+pub struct HostOpening {
+    pub session: HostSession,
+    pub refusal: u32,
+}
+
+// What forward, back and go-to answer. Stop: 0 spent, 1 answer, 2 jam, 3 far, 4 start, 5 log full, 6 tape full, 7 refused.
+// Value: the answer's node, the refusal's number, or 0; no stop has a second value.
+#[repr(C)]
+pub struct HostOutcome {
+    pub session: HostSession,
+    pub steps: u32,
+    pub stop: u32,
+    pub value: u32,
+    pub value2: u32,
+    pub peak: u32,
+}

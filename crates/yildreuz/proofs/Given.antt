@@ -1,0 +1,69 @@
+-- The law behind forward, back and go-to: a call made with `madeWith`, its outcome told by `givenBack`, is the call on the session that the numbers stand for.
+use mathlib.Core.Path.{_≡_, refl, sym, ap, _∙_}
+use mathlib.Core.Option.{Option, none, some}
+use mathlib.Core.List.{List}
+use Prim.Native.Nat.{ℕ, zero, suc}
+use native.Mathlib.Omega.{arith}
+use borrow.Author.Tests.{lt-ltb}
+use Rattle.calls.specs.Session.{Session, Stop, spent, jam, far, start, logFull, tapeFull, answer, refused, Outcome, Given}
+use Rattle.calls.specs.Held.{wellFormed, stateIn}
+use Rattle.calls.specs.Calls.{lentNumber, stateGiven, callNumber}
+use Rattle.calls.specs.Demand.{Move, outcomeOf}
+use Rattle.calls.proofs.Unrefused.{call-as-lent, call-nine}
+use Rattle.calls.proofs.Answers.{move-refused, refused-unchanged}
+use Rattle.face.specs.declared.HostSession.{HostSession}
+use Rattle.face.specs.declared.HostOutcome.{HostOutcome}
+use Rattle.face.specs.Numbers.{sessionNumbers}
+use Rattle.face.specs.Told.{toldWith, outcomeTold, noSessionNumber, called}
+use Rattle.yildreuz.specs.Given.{madeWith, sessionAfter, givenBack}
+use Rattle.face.proofs.Codes.{toward}
+
+-- Node 0 holds no state, so 9 applies where 7 and 8 do not.
+at-node-0 : (g : Given) → g .session .node ≡ 0 → stateGiven g ≡ none
+unfolding stateIn wellFormed
+at-node-0 g e = rw e
+
+nowhere : (g : Given) → g .session .node ≡ 0 → callNumber g ≡ some (noSessionNumber (g .table) (g .n) (g .log) (g .tape))
+nowhere g e = by-lent (lentNumber (g .table) (g .n) (g .log) (g .tape)) refl
+  where
+    by-lent : (o : Option ℕ) → lentNumber (g .table) (g .n) (g .log) (g .tape) ≡ o → callNumber g ≡ some (noSessionNumber (g .table) (g .n) (g .log) (g .tape))
+    by-lent none h = rw h (call-nine g h (at-node-0 g e))
+    by-lent (some k) h = rw h (call-as-lent g k h)
+
+-- A refused call gives back the session it was given, and so its numbers.
+given-told : (s : HostSession) (o : Outcome) → ((k : ℕ) → o .stop ≡ refused k → sessionNumbers (o .session) ≡ s) → givenBack s o ≡ outcomeTold o
+given-told s o back = ap (λ z. toldWith z o) (by-stop (o .stop) refl)
+  where
+    by-stop : (x : Stop) → o .stop ≡ x → sessionAfter s x (sessionNumbers (o .session)) ≡ sessionNumbers (o .session)
+    by-stop spent e = refl
+    by-stop (answer i) e = refl
+    by-stop jam e = refl
+    by-stop far e = refl
+    by-stop start e = refl
+    by-stop logFull e = refl
+    by-stop tapeFull e = refl
+    by-stop (refused k) e = sym (back k e)
+
+module _ (m : Move) (c : ℕ) (w : List ℕ) (n : ℕ) (s : HostSession) (ls ts : List ℕ) where
+  abbrev given : ℕ → Given
+  given d = record { table = w; n = n; session = madeWith (toward s d); log = ls; tape = ts }
+
+  given-as : (d : ℕ) → sessionNumbers (madeWith (toward s d)) ≡ toward s d → givenBack (toward s d) (outcomeOf m (given d) c) ≡ outcomeTold (outcomeOf m (given d) c)
+  given-as d same = given-told (toward s d) (outcomeOf m (given d) c) (λ k e. ap sessionNumbers (refused-unchanged (given d) k m c e .session-is) ∙ same)
+
+  by-direction : (d : ℕ) → called (λ g. outcomeOf m g c) w n (toward s d) ls ts ≡ givenBack (toward s d) (outcomeOf m (given d) c)
+  unfolding called
+  by-direction zero = sym (given-as zero refl)
+  by-direction (suc zero) = sym (given-as (suc zero) refl)
+  by-direction (suc (suc k)) =
+      let nowhere-0 : given (suc (suc k)) .session .node ≡ 0 = rw (lt-ltb 1 (suc (suc k)) (omega arith)) in
+      sym (ap (givenBack (toward s (suc (suc k)))) (move-refused (given (suc (suc k))) (noSessionNumber w n ls ts) m (nowhere (given (suc (suc k))) nowhere-0) c))
+
+  called-so : called (λ g. outcomeOf m g c) w n s ls ts ≡ givenBack s (outcomeOf m (given (s .direction)) c)
+  called-so = by-direction (s .direction)
+
+  -- as the code goes about it
+  pub told-so : {r : HostOutcome × List ℕ × List ℕ} {o : Outcome} {se : Session} → r ≡ givenBack s o
+      → o ≡ outcomeOf m (record { table = w; n = n; session = se; log = ls; tape = ts }) c → se ≡ madeWith s
+      → r ≡ called (λ g. outcomeOf m g c) w n s ls ts
+  told-so p q e = p ∙ ap (givenBack s) (q ∙ ap (λ z. outcomeOf m (record { table = w; n = n; session = z; log = ls; tape = ts }) c) e) ∙ sym called-so

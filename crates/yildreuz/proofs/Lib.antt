@@ -1,0 +1,2 @@
+-- The law behind the winding calls, beside the functions' own proofs.
+pub mod Given

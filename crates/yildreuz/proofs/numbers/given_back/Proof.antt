@@ -1,0 +1,26 @@
+use borrow.Author.Needs.{needs}
+use Rattle.yildreuz.proofs.numbers.given_back.Statement.{statement}
+use Rattle.yildreuz.proofs.numbers.given_back.Tie as tie
+
+session-numbers-requires : tie.Need-session-numbers-requires
+session-numbers-requires c κs = search needs
+
+session-after-requires : tie.Need-session-after-requires
+session-after-requires c κs = search needs
+
+stop-code-requires : tie.Need-stop-code-requires
+stop-code-requires c κs = search needs
+
+stop-value-requires : tie.Need-stop-value-requires
+stop-value-requires c κs = search needs
+
+returns : tie.Need-returns
+returns c ls ts = rw (
+  c .before .before .session-after .ensures,
+  c .before .before .before .session-numbers .ensures,
+  c .before .stop-code .ensures,
+  c .stop-value .ensures,
+)
+
+pub given-back-spec : {M : Type 1} → statement M
+given-back-spec = tie.close (tie.spec session-numbers-requires session-after-requires stop-code-requires stop-value-requires returns)

@@ -1,0 +1,69 @@
+-- `wound`: the call of its case.
+use borrow.Author.Needs.{needs}
+use Rattle.yildreuz.proofs.wound.Statement.{statement}
+use Rattle.yildreuz.proofs.wound.Tie as tie
+
+enum-told : tie.Need-enum-told
+enum-told c = search needs
+
+forward-requires : tie.Need-forward-requires
+forward-requires c κs = search needs
+
+enum-told-2 : tie.Need-enum-told-2
+enum-told-2 c = search needs
+
+back-requires : tie.Need-back-requires
+back-requires c κs = search needs
+
+enum-told-3 : tie.Need-enum-told-3
+enum-told-3 c = search needs
+
+go-to-requires : tie.Need-go-to-requires
+go-to-requires c κs = search needs
+
+same-length : tie.Need-same-length
+same-length c = search needs
+
+same-length-2 : tie.Need-same-length-2
+same-length-2 c = search needs
+
+returns : tie.Need-returns
+returns c = let made = c .before .before .before .before in rw (made .before .before .before .enum-told .given .1) (made .forward .ensures)
+
+same-length-3 : tie.Need-same-length-3
+same-length-3 c = search needs
+
+same-length-4 : tie.Need-same-length-4
+same-length-4 c = search needs
+
+returns-2 : tie.Need-returns-2
+returns-2 c = let made = c .before .before .before .before in rw (made .before .before .before .enum-told2 .given .1) (made .back .ensures)
+
+same-length-5 : tie.Need-same-length-5
+same-length-5 c = search needs
+
+same-length-6 : tie.Need-same-length-6
+same-length-6 c = search needs
+
+returns-3 : tie.Need-returns-3
+returns-3 c = let made = c .before .before .before .before in rw (made .before .before .before .enum-told3 .given .1) (made .go-to .ensures)
+
+pub wound-spec : {M : Type 1} → statement M
+wound-spec =
+    tie.close
+    (tie.spec
+    enum-told
+    forward-requires
+    enum-told-2
+    back-requires
+    enum-told-3
+    go-to-requires
+    same-length
+    same-length-2
+    returns
+    same-length-3
+    same-length-4
+    returns-2
+    same-length-5
+    same-length-6
+    returns-3)

@@ -1,0 +1,46 @@
+-- What the private functions promise: which call is made and with which session, and the numbers given back where it is refused.
+use mathlib.Core.Bool.{cond}
+use mathlib.Core.List.{List}
+use Prim.Native.Nat.{ℕ}
+use lib.Dec.{ltb, eqb}
+use Rattle.machine.specs.Machine.{down, up}
+use Rattle.calls.specs.Session.{Session, Stop, spent, jam, far, start, logFull, tapeFull, answer, refused, Outcome}
+use Rattle.calls.specs.Stops.{forward, back}
+use Rattle.calls.specs.Demand
+use Rattle.calls.specs.Demand.{by, go-to}
+use Rattle.yildreuz.specs.declared.Move.{Move}
+use Rattle.yildreuz.specs.declared.Move.the-variants.{Forward, Back, GoTo}
+use Rattle.face.specs.declared.HostSession.{HostSession}
+use Rattle.face.specs.declared.HostOutcome.{HostOutcome}
+use Rattle.face.specs.Numbers.{sessionNumbers}
+use Rattle.face.specs.Told.{toldWith}
+
+-- the call of document 01 that winds
+abbrev pub moveMeant : Move → Demand.Move
+moveMeant Forward = by forward
+moveMeant Back = by back
+moveMeant GoTo = go-to
+
+-- Numbers without a direction are taken to stand at node 0, which no table has, so that the call itself finds 7, 8 or 9.
+abbrev pub madeWith : HostSession → Session
+madeWith s = record {
+  node = cond (ltb 1 (s .direction)) 0 (s .node);
+  dir = cond (eqb (s .direction) 0) down up;
+  position = s .position;
+  logLength = s .«log_len»;
+  tapeLength = s .«tape_len»;
+}
+
+-- the numbers given where the call is refused, and else those after it
+abbrev pub sessionAfter : HostSession → Stop → HostSession → HostSession
+sessionAfter given spent next = next
+sessionAfter given (answer i) next = next
+sessionAfter given jam next = next
+sessionAfter given far next = next
+sessionAfter given start next = next
+sessionAfter given logFull next = next
+sessionAfter given tapeFull next = next
+sessionAfter given (refused k) next = given
+
+abbrev pub givenBack : HostSession → Outcome → HostOutcome × List ℕ × List ℕ
+givenBack given o = toldWith (sessionAfter given (o .stop) (sessionNumbers (o .session))) o

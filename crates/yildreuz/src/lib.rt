@@ -1,0 +1,142 @@
+// The reader and the four calls for a host in another language: host/yildreuz.h has the same structs and functions in C.
+ghost use mathlib.Core.Path.{_≡_};
+ghost use Rattle.text.specs.Reading.{readOf};
+ghost use Rattle.calls.specs.Calls.{openOf, forwardOf, backOf, goToOf};
+ghost use Rattle.calls.specs.Demand.{outcomeOf};
+ghost use Rattle.session.specs.Types.{outcomeMeant, lent};
+ghost use Rattle.face.specs.Told.{readTold, openTold, called};
+ghost use Rattle.yildreuz.specs.Given.{moveMeant};
+
+mod numbers;
+
+use face::HostOpening;
+use face::HostOutcome;
+use face::HostReading;
+use face::HostSession;
+use numbers::given_back;
+use numbers::made_with;
+use numbers::session_numbers;
+use session::Outcome;
+use session::Session;
+
+// The reader's answer, and the table slice as it leaves it.
+#[no_mangle]
+pub extern "C" fn yildreuz_read(text: &[u8], table: &mut [u32]) -> HostReading
+    ensures { λ r. ⌜ (r, now (table .exit)) ≡ readTold (readOf (now (text .entry)) (now (table .entry))) ⌝ }
+{
+    let r = reader::read(text, table);
+    HostReading {
+        n: r.n,
+        refusal: r.refusal,
+    }
+}
+
+// Open's answer, its session in numbers, and both slices as it leaves them. The others the same.
+#[no_mangle]
+pub extern "C" fn yildreuz_open(
+    table: &[u32],
+    n: u32,
+    log: &mut [u32],
+    tape: &mut [u32],
+) -> HostOpening
+    ensures { λ r. ⌜ (r, now (log .exit), now (tape .exit))
+        ≡ openTold (openOf (now (table .entry)) n (now (log .entry)) (now (tape .entry))) ⌝ }
+{
+    let o = session::open(table, n, log, tape);
+    let first = o.session;
+    let session = session_numbers(first);
+    HostOpening {
+        session: session,
+        refusal: o.refusal,
+    }
+}
+
+// Which of the calls that wind.
+enum Move {
+    Forward,
+    Back,
+    GoTo,
+}
+
+// The call itself.
+fn wound(
+    table: &[u32],
+    n: u32,
+    session: Session,
+    log: &mut [u32],
+    tape: &mut [u32],
+    m: Move,
+    number: u32,
+) -> Outcome
+    ensures { λ r. ⌜ outcomeMeant r (now (log .exit)) (now (tape .exit))
+        ≡ outcomeOf (moveMeant m) (lent (now (table .entry)) n session (now (log .entry)) (now (tape .entry))) number ⌝ }
+{
+    match m {
+        Move::Forward => session::forward(table, n, session, log, tape, number),
+        Move::Back => session::back(table, n, session, log, tape, number),
+        Move::GoTo => session::go_to(table, n, session, log, tape, number),
+    }
+}
+
+// The call on the session that a host's numbers stand for, its outcome in numbers. Refused, it gives back the numbers given.
+fn call(
+    table: &[u32],
+    n: u32,
+    session: HostSession,
+    log: &mut [u32],
+    tape: &mut [u32],
+    m: Move,
+    number: u32,
+) -> HostOutcome
+    ensures { λ r. ⌜ (r, now (log .exit), now (tape .exit))
+        ≡ called (λ g. outcomeOf (moveMeant m) g number) (now (table .entry)) n session (now (log .entry)) (now (tape .entry)) ⌝ }
+{
+    let s = made_with(session);
+    let o = wound(table, n, s, log, tape, m, number);
+    given_back(session, o)
+}
+
+#[no_mangle]
+pub extern "C" fn yildreuz_forward(
+    table: &[u32],
+    n: u32,
+    session: HostSession,
+    log: &mut [u32],
+    tape: &mut [u32],
+    count: u32,
+) -> HostOutcome
+    ensures { λ r. ⌜ (r, now (log .exit), now (tape .exit))
+        ≡ called (λ g. forwardOf g count) (now (table .entry)) n session (now (log .entry)) (now (tape .entry)) ⌝ }
+{
+    call(table, n, session, log, tape, Move::Forward, count)
+}
+
+#[no_mangle]
+pub extern "C" fn yildreuz_back(
+    table: &[u32],
+    n: u32,
+    session: HostSession,
+    log: &mut [u32],
+    tape: &mut [u32],
+    count: u32,
+) -> HostOutcome
+    ensures { λ r. ⌜ (r, now (log .exit), now (tape .exit))
+        ≡ called (λ g. backOf g count) (now (table .entry)) n session (now (log .entry)) (now (tape .entry)) ⌝ }
+{
+    call(table, n, session, log, tape, Move::Back, count)
+}
+
+#[no_mangle]
+pub extern "C" fn yildreuz_go_to(
+    table: &[u32],
+    n: u32,
+    session: HostSession,
+    log: &mut [u32],
+    tape: &mut [u32],
+    position: u32,
+) -> HostOutcome
+    ensures { λ r. ⌜ (r, now (log .exit), now (tape .exit))
+        ≡ called (λ g. goToOf g position) (now (table .entry)) n session (now (log .entry)) (now (tape .entry)) ⌝ }
+{
+    call(table, n, session, log, tape, Move::GoTo, position)
+}

@@ -1,0 +1,114 @@
+// Directions, sessions, stops and outcomes in numbers, and a host's numbers as a session.
+ghost use mathlib.Core.Path.{_≡_};
+ghost use mathlib.Core.List.{List};
+ghost use Prim.Native.Nat.{ℕ};
+ghost use Rattle.session.specs.Types.{dirMeant, sessionMeant, stopMeant, outcomeMeant};
+ghost use Rattle.face.specs.Numbers.{dirNumber, sessionNumbers, stopCode, stopValue};
+ghost use Rattle.yildreuz.specs.Given.{madeWith, sessionAfter, givenBack};
+use face::HostOutcome;
+use face::HostSession;
+use session::Dir;
+use session::Outcome;
+use session::Session;
+use session::Stop;
+
+fn dir_number(dir: Dir) -> u32
+    ensures { λ r. ⌜ r ≡ dirNumber (dirMeant dir) ⌝ }
+{
+    match dir {
+        Dir::Down => 0,
+        Dir::Up => 1,
+    }
+}
+
+pub(crate) fn session_numbers(s: Session) -> HostSession
+    ensures { λ r. ⌜ r ≡ sessionNumbers (sessionMeant s) ⌝ }
+{
+    let dir = s.dir;
+    HostSession {
+        node: s.node,
+        direction: dir_number(dir),
+        position: s.position,
+        log_len: s.log_len,
+        tape_len: s.tape_len,
+    }
+}
+
+// A direction above 1 is none: the session then stands at node 0, where every call refuses it, and after 7 and 8.
+pub(crate) fn made_with(s: HostSession) -> Session
+    ensures { λ r. ⌜ sessionMeant r ≡ madeWith s ⌝ }
+{
+    let node = if 1 < s.direction { 0 } else { s.node };
+    let dir = if s.direction == 0 { Dir::Down } else { Dir::Up };
+    Session {
+        node: node,
+        dir: dir,
+        position: s.position,
+        log_len: s.log_len,
+        tape_len: s.tape_len,
+    }
+}
+
+fn stop_code(stop: Stop) -> u32
+    ensures { λ r. ⌜ r ≡ stopCode (stopMeant stop) ⌝ }
+{
+    match stop {
+        Stop::Spent => 0,
+        Stop::Answer(_) => 1,
+        Stop::Jam => 2,
+        Stop::Far => 3,
+        Stop::Start => 4,
+        Stop::LogFull => 5,
+        Stop::TapeFull => 6,
+        Stop::Refused(_) => 7,
+    }
+}
+
+fn stop_value(stop: Stop) -> u32
+    ensures { λ r. ⌜ r ≡ stopValue (stopMeant stop) ⌝ }
+{
+    match stop {
+        Stop::Spent => 0,
+        Stop::Answer(i) => i,
+        Stop::Jam => 0,
+        Stop::Far => 0,
+        Stop::Start => 0,
+        Stop::LogFull => 0,
+        Stop::TapeFull => 0,
+        Stop::Refused(k) => k,
+    }
+}
+
+// A refusal gives back the numbers given: those that stand for no session too.
+fn session_after(given: HostSession, stop: Stop, next: HostSession) -> HostSession
+    ensures { λ r. ⌜ r ≡ sessionAfter given (stopMeant stop) next ⌝ }
+{
+    match stop {
+        Stop::Spent => next,
+        Stop::Answer(_) => next,
+        Stop::Jam => next,
+        Stop::Far => next,
+        Stop::Start => next,
+        Stop::LogFull => next,
+        Stop::TapeFull => next,
+        Stop::Refused(_) => given,
+    }
+}
+
+// An outcome in numbers, of a call that was given these.
+pub(crate) fn given_back(given: HostSession, o: Outcome) -> HostOutcome
+    ensures { λ r. ⌜ ((ls ts : List ℕ) → (r, ls, ts) ≡ givenBack given (outcomeMeant o ls ts)) ⌝ }
+{
+    let stop = o.stop;
+    let last = o.session;
+    let next = session_numbers(last);
+    let session = session_after(given, stop, next);
+    HostOutcome {
+        session: session,
+        steps: o.steps,
+        stop: stop_code(stop),
+        value: stop_value(stop),
+        value2: 0,
+        peak: o.peak,
+    }
+}

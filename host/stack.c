@@ -1,0 +1,111 @@
+/* How much stack each call touches on the deepest texts and tables there are, beside what yildreuz.h says; exit status 1 if
+   a call touches more.
+
+     cc -pthread stack.c libyildreuz.a -o stack && ./stack */
+#define _POSIX_C_SOURCE 200809L
+#include <pthread.h>
+#include <stdio.h>
+#include <stdlib.h>
+#include <string.h>
+#include "yildreuz.h"
+
+enum { STACK = 8 << 20, PAINT = 0xA5, TABLE = 5 * YILDREUZ_MOST_NODES };
+
+static uint8_t text[YILDREUZ_MOST_BYTES];
+static size_t text_len;
+static uint32_t table[TABLE], log_words[YILDREUZ_LONGEST], tape_words[YILDREUZ_LONGEST];
+static uint32_t n;
+static yildreuz_session session;
+
+#define ALL_SLICES log_words, YILDREUZ_LONGEST, tape_words, YILDREUZ_LONGEST
+
+static void *nothing(void *unused) { return unused; }
+static void *reads(void *unused) { n = yildreuz_read(text, text_len, table, TABLE).n; return unused; }
+static void *opens(void *unused) { session = yildreuz_open(table, TABLE, n, ALL_SLICES).session; return unused; }
+static void *forward(void *unused) { session = yildreuz_forward(table, TABLE, n, session, ALL_SLICES, 20000).session; return unused; }
+static void *back(void *unused) { session = yildreuz_back(table, TABLE, n, session, ALL_SLICES, 10000).session; return unused; }
+static void *goes_to(void *unused) { session = yildreuz_go_to(table, TABLE, n, session, ALL_SLICES, 0).session; return unused; }
+
+/* Bytes that a thread touches of a stack painted before. */
+static size_t touched(void *(*call)(void *))
+{
+    static unsigned char *stack;
+    pthread_attr_t attr;
+    pthread_t thread;
+    size_t clean = 0;
+    if (stack == NULL && posix_memalign((void **)&stack, 1 << 16, STACK) != 0)
+        exit(2);
+    memset(stack, PAINT, STACK);
+    if (pthread_attr_init(&attr) != 0 || pthread_attr_setstack(&attr, stack, STACK) != 0 || pthread_create(&thread, &attr, call, NULL) != 0)
+        exit(2);
+    pthread_join(thread, NULL);
+    pthread_attr_destroy(&attr);
+    while (clean < STACK && stack[clean] == PAINT)
+        clean++;
+    return STACK - clean;
+}
+
+static int failed;
+
+/* What the call touches beyond a thread that does nothing. */
+static void measure(const char *name, const char *on, void *(*call)(void *), size_t most)
+{
+    size_t used = touched(call) - touched(nothing);
+    printf("%-8s %-36s %7lu of %lu bytes\n", name, on, (unsigned long)used, (unsigned long)most);
+    failed |= used > most;
+}
+
+/* head repeated, then middle, then tail repeated, as often as there is room. */
+static void write_text(const char *head, const char *middle, const char *tail)
+{
+    size_t h = strlen(head), m = strlen(middle), t = strlen(tail), times = (YILDREUZ_MOST_BYTES - m) / (h + t);
+    text_len = 0;
+    for (size_t i = 0; i < times; i++, text_len += h)
+        memcpy(text + text_len, head, h);
+    memcpy(text + text_len, middle, m);
+    text_len += m;
+    for (size_t i = 0; i < times; i++, text_len += t)
+        memcpy(text + text_len, tail, t);
+}
+
+static void measure_reading(const char *on, const char *head, const char *middle, const char *tail)
+{
+    write_text(head, middle, tail);
+    measure("read", on, reads, YILDREUZ_READ_STACK);
+}
+
+static void measure_calls(const char *on)
+{
+    measure("open", on, opens, YILDREUZ_CALL_STACK);
+    measure("forward", on, forward, YILDREUZ_CALL_STACK);
+    measure("back", on, back, YILDREUZ_CALL_STACK);
+    measure("go_to", on, goes_to, YILDREUZ_CALL_STACK);
+}
+
+/* 2,999 abstractions over a variable: deeper than any text. */
+static void deepest_table(void)
+{
+    n = YILDREUZ_MOST_NODES;
+    for (uint32_t i = 1; i <= n; i++) {
+        uint32_t *row = table + 5 * (i - 1);
+        row[0] = i < n ? 2 : 1;
+        row[1] = i < n ? i + 1 : 1;
+        row[2] = row[4] = 0;
+        row[3] = i - 1;
+    }
+}
+
+int main(void)
+{
+    measure_reading("opening brackets", "(", "", "");
+    measure_reading("brackets around abstractions", "(\\x.", "x", ")");
+    measure_reading("abstractions", "\\x.", "x", "");
+    measure_calls("abstractions");
+    measure_reading("arguments in arguments", "(\\x.x x)(", "\\x.x", ")");
+    measure_calls("arguments in arguments");
+    measure_reading("functions of functions", "(\\x.x)", "\\x.x", "");
+    measure_calls("functions of functions");
+    deepest_table();
+    measure_calls("2,999 abstractions");
+    return failed;
+}

@@ -1,0 +1,129 @@
+/* Yildreuz for C and C++: reads a closed lambda-term, opens a session on it, and moves a token over the term, forward,
+   back or to a position. Link libyildreuz.a (x86-64 Linux), which needs memset of the C library and nothing else.
+
+   Who owns what. Every byte and word is the caller's. A call borrows text, table, log and tape while it runs: it keeps
+   no pointer, allocates nothing, and has no state of its own, so calls that write different slices may run at the same
+   time, on one table too. Sessions and answers are numbers, handed over and back by value; a copy of one is as good as
+   the other.
+
+   What a call takes. Any bytes, words and numbers there are: each call ends on all of them, and refuses by number what
+   is not right. What no call can test is the caller's promise:
+   - pointer and length agree: behind the pointer lie at least as many bytes or words as the length after it says, to be
+     read, and to be written where the pointer is not to const;
+   - every pointer is aligned for its type, and none is NULL, even where its length is 0;
+   - a slice that a call writes overlaps no other slice of that call.
+
+   What a refusal leaves. No lent byte or word differs, and a session given comes back as it was, number for number. Every
+   other number of the answer is 0, beside the refusal's own:
+     1  the text has more than 3,000 bytes            6  the table has fewer than 5 words for each node of the term
+     2  it has a byte that no term has                7  n is 0 or over 3,000, the table has fewer than 5 x n words,
+     3  it has a name over 8 bytes, or one that          or no closed term has it
+        starts with a digit                           8  log or tape has more than 16,384 words
+     4  it is not a term                              9  the session, log and tape hold no state of the machine, or
+     5  it has a name without a binder                   the direction is neither 0 nor 1
+   The numbers are tested in their order: 1 to 6 by read, 7 and 8 by open, 7 to 9 by the other three.
+
+   Stack. A call needs no more than the constants below say: measured on the deepest texts and tables that there are, and
+   rounded up. */
+#ifndef YILDREUZ_H
+#define YILDREUZ_H
+
+#include <stddef.h>
+#include <stdint.h>
+
+#ifdef __cplusplus
+extern "C" {
+#endif
+
+enum {
+    YILDREUZ_MOST_BYTES = 3000,         /* of a text */
+    YILDREUZ_MOST_NODES = 3000,         /* of a term; its table has 5 words for each node */
+    YILDREUZ_LONGEST = 16384,           /* words of a log or a tape slice; 0 is permitted */
+    YILDREUZ_READ_STACK = 768 * 1024,   /* bytes of stack that yildreuz_read needs at most */
+    YILDREUZ_CALL_STACK = 576 * 1024    /* bytes of stack that each of the other calls needs at most */
+};
+
+/* Which way the token goes. */
+enum { YILDREUZ_DOWN = 0, YILDREUZ_UP = 1 };
+
+/* Why forward, back or go_to ended. */
+enum {
+    YILDREUZ_SPENT = 0,     /* every step asked for was made */
+    YILDREUZ_ANSWER = 1,    /* down at an abstraction with an empty tape; value is its node */
+    YILDREUZ_JAM = 2,       /* no rule fits the state */
+    YILDREUZ_FAR = 3,       /* the position is at its greatest, 4,294,967,295 */
+    YILDREUZ_START = 4,     /* going back, at position 0 */
+    YILDREUZ_LOG_FULL = 5,  /* the log slice has no room for the next step */
+    YILDREUZ_TAPE_FULL = 6, /* the tape slice has none */
+    YILDREUZ_REFUSED = 7    /* nothing was done; value is the refusal's number */
+};
+
+/* What read answers. */
+typedef struct yildreuz_reading {
+    uint32_t n;       /* the term's nodes, which the other calls take with the table; 0 in a refusal */
+    uint32_t refusal; /* its number, 1 to 6, or 0 for none */
+} yildreuz_reading;
+
+/* Where the token stands. The caller keeps it, with the table, the log and the tape it belongs to, from call to call. */
+typedef struct yildreuz_session {
+    uint32_t node;      /* numbered from 1 in the order of the text: a node, its left part, its right part */
+    uint32_t direction; /* YILDREUZ_DOWN or YILDREUZ_UP */
+    uint32_t position;  /* steps from the start */
+    uint32_t log_len;   /* words of the log in use, from the slice's first on; its top is the last of them */
+    uint32_t tape_len;  /* the same of the tape */
+} yildreuz_session;
+
+/* What open answers. */
+typedef struct yildreuz_opening {
+    yildreuz_session session; /* the token at the start; every number 0 in a refusal */
+    uint32_t refusal;         /* its number, 7 or 8, or 0 for none */
+} yildreuz_opening;
+
+/* What forward, back and go_to answer. */
+typedef struct yildreuz_outcome {
+    yildreuz_session session; /* where the token stands now; the one given in a refusal */
+    uint32_t steps;           /* steps made; 0 in a refusal */
+    uint32_t stop;            /* why it ended: YILDREUZ_SPENT to YILDREUZ_REFUSED */
+    uint32_t value;           /* the answer's node or the refusal's number; 0 with every other stop */
+    uint32_t value2;          /* 0: no stop has a second value */
+    uint32_t peak;            /* the most words in log and tape together over the states stood in; 0 in a refusal */
+} yildreuz_outcome;
+
+/* Reads a closed term.
+   Borrows the text to read it, and the table to write its first 5 x n words; the words after them stay.
+   Refuses with 1 to 6, and then every word of the table stays.
+   Needs YILDREUZ_READ_STACK bytes of stack.
+   The caller promises: the table does not overlap the text; and what the top of this file says of pointers. */
+yildreuz_reading yildreuz_read(const uint8_t *text, size_t text_len, uint32_t *table, size_t table_len);
+
+/* Opens a session at the start of the walk.
+   Borrows the table to read it, and log and tape to write 0 into every word.
+   Refuses with 7 or 8, and then every word of log and tape stays.
+   Needs YILDREUZ_CALL_STACK bytes of stack.
+   The caller promises: log and tape overlap neither each other nor the table; and what the top says of pointers. */
+yildreuz_opening yildreuz_open(const uint32_t *table, size_t table_len, uint32_t n,
+                               uint32_t *log, size_t log_len, uint32_t *tape, size_t tape_len);
+
+/* Makes count steps forward, or fewer if another stop comes first.
+   Borrows the table to read it, and log and tape, as the call before left them, to read and write.
+   Refuses with 7 to 9, and then every word of log and tape stays, and the session comes back as given.
+   Needs YILDREUZ_CALL_STACK bytes of stack.
+   The caller promises: log and tape overlap neither each other nor the table; and what the top says of pointers. */
+yildreuz_outcome yildreuz_forward(const uint32_t *table, size_t table_len, uint32_t n, yildreuz_session session,
+                                  uint32_t *log, size_t log_len, uint32_t *tape, size_t tape_len, uint32_t count);
+
+/* Makes count steps back, or fewer if another stop comes first. After forward, back by the steps made gives the session
+   and every word of both slices as they were.
+   Borrows, refuses, needs and leaves to the caller what yildreuz_forward does. */
+yildreuz_outcome yildreuz_back(const uint32_t *table, size_t table_len, uint32_t n, yildreuz_session session,
+                               uint32_t *log, size_t log_len, uint32_t *tape, size_t tape_len, uint32_t count);
+
+/* Goes to a position: forward or back by the difference.
+   Borrows, refuses, needs and leaves to the caller what yildreuz_forward does. */
+yildreuz_outcome yildreuz_go_to(const uint32_t *table, size_t table_len, uint32_t n, yildreuz_session session,
+                                uint32_t *log, size_t log_len, uint32_t *tape, size_t tape_len, uint32_t position);
+
+#ifdef __cplusplus
+}
+#endif
+#endif

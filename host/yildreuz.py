@@ -1,0 +1,164 @@
+"""Yildreuz for Python: the five calls of yildreuz.h over a shared library, with Python's standard library alone. The library is made of the archive:
+
+    cc -shared -o libyildreuz.so -Wl,--whole-archive libyildreuz.a -Wl,--no-whole-archive
+
+and used so:
+
+    import yildreuz
+
+    lib = yildreuz.Library('libyildreuz.so')
+    table, log, tape = yildreuz.words(100), yildreuz.words(64), yildreuz.words(64)
+    n, refusal = lib.read(rb'(\\x.x x)(\\y.y)', table)
+    session, refusal = lib.open(table, n, log, tape)
+    out = lib.forward(table, n, session, log, tape, 100)    # out.steps 12, out.stop ANSWER, out.value 6
+    home = lib.back(table, n, out.session, log, tape, out.steps)
+
+Table, log and tape are the caller's: `words(k)`, or any writable buffer of 32-bit words such as an array('I') or a memoryview of a part of one. A call
+borrows them while it runs and writes into them in place. Sessions and answers are tuples of numbers. What the answers mean, what each number refuses and
+what a refusal leaves stands in yildreuz.h. What that header leaves to the caller to promise is tested here: a buffer of other items, slices that overlap, or a
+number that is no 32-bit word raise an error before the call.
+"""
+import ctypes
+from array import array
+from typing import NamedTuple
+
+MOST_BYTES, MOST_NODES, LONGEST = 3000, 3000, 16384
+DOWN, UP = 0, 1
+SPENT, ANSWER, JAM, FAR, START, LOG_FULL, TAPE_FULL, REFUSED = range(8)
+STOP_NAMES = ('spent', 'answer', 'jam', 'far', 'start', 'log full', 'tape full', 'refused')
+
+GREATEST = 4294967295  # of a position, a count and any other word
+
+
+class Reading(NamedTuple):
+    n: int
+    refusal: int
+
+
+class Session(NamedTuple):
+    node: int
+    direction: int
+    position: int
+    log_len: int
+    tape_len: int
+
+
+class Opening(NamedTuple):
+    session: Session
+    refusal: int
+
+
+class Outcome(NamedTuple):
+    session: Session
+    steps: int
+    stop: int
+    value: int
+    value2: int
+    peak: int
+
+
+def words(count):
+    """A slice of so many words, all 0."""
+    return array('I', bytes(4 * count))
+
+
+# The structs of yildreuz.h.
+
+def _struct(shape, **inner):
+    fields = [(name, inner.get(name, ctypes.c_uint32)) for name in shape._fields]
+    return type(shape.__name__, (ctypes.Structure,), {'_fields_': fields})
+
+
+_Reading = _struct(Reading)
+_Session = _struct(Session)
+_Opening = _struct(Opening, session=_Session)
+_Outcome = _struct(Outcome, session=_Session)
+
+
+def _told(shape, struct):
+    """A struct as the tuple of its numbers."""
+    values = [getattr(struct, name) for name in shape._fields]
+    return shape(*(_told(Session, v) if isinstance(v, _Session) else v for v in values))
+
+
+def _word(number):
+    if not 0 <= number <= GREATEST:
+        raise OverflowError('%d is no 32-bit word' % number)
+    return number
+
+
+# Pointer and length of what is lent: what yildreuz.h leaves to the caller's promise is tested here.
+
+def _lent(*buffers):
+    arguments, ends = [], []
+    for buffer in buffers:
+        view = memoryview(buffer)
+        if view.ndim != 1 or view.format not in ('I', '<I', '=I') or view.readonly or not view.c_contiguous:
+            raise TypeError('a slice is a writable buffer of 32-bit words')
+        # none may be NULL, so a slice without words is lent as a spare one
+        array_type = ctypes.c_uint32 * len(view)
+        lent = array_type.from_buffer(view) if len(view) else (ctypes.c_uint32 * 1)()
+        start = ctypes.addressof(lent)
+        if start % 4:
+            raise TypeError('a slice of words is aligned as words are')
+        arguments.append((lent, len(view)))
+        ends.append((start, start + 4 * len(view)))
+    ends.sort()
+    if any(end > start for (_, end), (start, _) in zip(ends, ends[1:])):
+        raise ValueError('lent slices overlap')
+    return arguments
+
+
+def _lent_text(text):
+    text = bytes(text)
+    return (ctypes.c_uint8 * (len(text) or 1)).from_buffer_copy(text or b'\0'), len(text)
+
+
+_WORDS, _BYTES, _LEN, _WORD = ctypes.POINTER(ctypes.c_uint32), ctypes.POINTER(ctypes.c_uint8), ctypes.c_size_t, ctypes.c_uint32
+
+
+class Library:
+    """The shared library at a path."""
+
+    def __init__(self, path):
+        lib = ctypes.CDLL(str(path))
+        slices = [_WORDS, _LEN, _WORDS, _LEN]
+        self._read = self._call(lib.yildreuz_read, _Reading, [_BYTES, _LEN, _WORDS, _LEN])
+        self._open = self._call(lib.yildreuz_open, _Opening, [_WORDS, _LEN, _WORD] + slices)
+        winding = [_WORDS, _LEN, _WORD, _Session] + slices + [_WORD]
+        self._forward = self._call(lib.yildreuz_forward, _Outcome, winding)
+        self._back = self._call(lib.yildreuz_back, _Outcome, winding)
+        self._go_to = self._call(lib.yildreuz_go_to, _Outcome, winding)
+
+    @staticmethod
+    def _call(function, restype, argtypes):
+        function.restype, function.argtypes = restype, argtypes
+        return function
+
+    def read(self, text, table):
+        """Reads a closed term, given as bytes, into the table."""
+        (table,) = _lent(table)
+        return _told(Reading, self._read(*_lent_text(text), *table))
+
+    def open(self, table, n, log, tape):
+        """Opens a session at the start of the walk, and zeroes log and tape."""
+        table, log, tape = _lent(table, log, tape)
+        return _told(Opening, self._open(*table, _word(n), *log, *tape))
+
+    def forward(self, table, n, session, log, tape, count):
+        """Makes count steps forward, or fewer if another stop comes first."""
+        return self._wind(self._forward, table, n, session, log, tape, count)
+
+    def back(self, table, n, session, log, tape, count):
+        """Makes count steps back, or fewer if another stop comes first."""
+        return self._wind(self._back, table, n, session, log, tape, count)
+
+    def go_to(self, table, n, session, log, tape, position):
+        """Goes forward or back to a position."""
+        return self._wind(self._go_to, table, n, session, log, tape, position)
+
+    @staticmethod
+    def _wind(call, table, n, session, log, tape, number):
+        table, log, tape = _lent(table, log, tape)
+        numbers = _Session(*map(_word, session))
+        return _told(Outcome, call(*table, _word(n), numbers, *log, *tape, _word(number)))

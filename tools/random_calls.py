@@ -1,0 +1,256 @@
+#!/usr/bin/env python3
+"""Compares random calls through host/yildreuz.py with reference.py's reading of document 01 (tools/host runs it).
+
+  tools/random_calls.py LIBRARY [CALLS [SEED]]
+
+Texts are closed terms, written with blanks and brackets that the grammar permits, and damaged ones; tables, slices and sessions are those that the calls
+left, and damaged ones. Every number of every answer is compared, every word of every lent slice, and the words that stand before and after it. At the end
+every stop and every refusal must have come up, from each call that gives it.
+"""
+import pathlib
+import random
+import sys
+from array import array
+from collections import Counter
+
+TOP = pathlib.Path(__file__).resolve().parent.parent
+sys.path[:0] = [str(TOP / 'tools'), str(TOP / 'host')]
+import reference  # noqa: E402
+import yildreuz  # noqa: E402
+
+GUARD = 3  # words before and after each lent slice
+FARTHEST = 200  # steps
+CODES = {name: code for code, name in enumerate(yildreuz.STOP_NAMES)}
+
+# what must have come up of each call by the end
+DUE = {
+    'read': {'read'} | {'refused %d' % k for k in range(1, 7)},
+    'open': {'opened', 'refused 7', 'refused 8'},
+    'forward': {'spent', 'answer', 'jam', 'far', 'log full', 'tape full', 'refused 7', 'refused 8', 'refused 9', 'no direction'},
+    'back': {'spent', 'start', 'jam', 'log full', 'tape full', 'refused 7', 'refused 8', 'refused 9', 'no direction'},
+}
+DUE['go_to'] = (DUE['forward'] | DUE['back']) - {'start', 'far'}  # its count is used up where either could come
+
+
+class Lent:
+    """Words in the middle of others, which no call may change."""
+
+    def __init__(self, rng, values):
+        self.size = len(values)
+        self.fence = [rng.getrandbits(32) for _ in range(2 * GUARD)]
+        self.all = array('I', self.fence[:GUARD] + list(values) + self.fence[GUARD:])
+        self.part = memoryview(self.all)[GUARD:GUARD + self.size]
+
+    def now(self):
+        words = self.all.tolist()
+        if words[:GUARD] + words[GUARD + self.size:] != self.fence:
+            raise AssertionError('a word outside a lent slice has changed')
+        return words[GUARD:GUARD + self.size]
+
+
+# ---- texts
+
+def random_tree(rng, size, scope):
+    """A closed term of about this many nodes, as reference.py has it; mostly applications, so that there is a way to go."""
+    least = 1 if scope else 2
+    kind = rng.random()
+    if size > 2 * least and kind < 0.65:
+        left = rng.randint(least, size - 1 - least)
+        return ('app', random_tree(rng, left, scope), random_tree(rng, size - 1 - left, scope))
+    if scope and (size == 1 or kind < 0.7):
+        return ('var', rng.choice(scope))
+    name = rng.choice([b'x', b'y', b'z', b'f', b'a1', b'longname'])
+    return ('lam', name, random_tree(rng, size - 1, scope + [name]))
+
+
+def spelled(rng, tree, place):
+    """A text of it at this place: 'term', 'function' or 'argument'."""
+    blank = rng.choice([b'', b'', b'', b' ', b'\n', b'  '])
+    if tree[0] == 'var':
+        text, bare = tree[1], True
+    elif tree[0] == 'lam':
+        text, bare = b'\\' + blank + tree[1] + blank + b'.' + spelled(rng, tree[2], 'term'), place == 'term'
+    else:
+        text, bare = spelled(rng, tree[1], 'function') + b' ' + blank + spelled(rng, tree[2], 'argument'), place != 'argument'
+    return blank + text + blank if bare and rng.random() < 0.9 else b'(' + blank + text + b')'
+
+
+KNOWN = [rb'(\x.x x)(\y.y)', rb'(\x.x x)(\x.x x)', rb'\x.x', rb'(\f.\x.f(f x))(\y.y)(\z.z)', rb'(\x.\y.x)(\z.z)(\w.w w)']
+
+
+def random_text(rng):
+    kind = rng.random()
+    if kind < 0.25:
+        text = rng.choice(KNOWN)
+    elif kind < 0.97:
+        text = spelled(rng, random_tree(rng, rng.randint(1, 24), []), 'term')
+    else:
+        text = rng.choice([b' ' * rng.choice([2999, 3000, 3001]), rb'\x.x' + b' x' * 1498, b'(' * 700, b''])
+    if rng.random() < 0.25:
+        text = bytearray(text)
+        for _ in range(rng.randint(1, 2)):
+            at = rng.randint(0, len(text))
+            text[at:at + rng.randint(0, 1)] = rng.choice([b'', b'X', b'(', b')', b'.', b'\\', b'9x', b'q', b'ninebytes', b' '])
+        text = bytes(text)
+    return text
+
+
+# ---- damage: words that are near what is right
+
+def damaged(rng, words, n):
+    words = list(words)
+    for _ in range(rng.randint(1, 2)):
+        if words:
+            words[rng.randrange(len(words))] = rng.choice([0, 1, 2, 3, rng.randint(0, n + 2), rng.getrandbits(32)])
+    return words
+
+
+def damaged_session(rng, s, n):
+    field = rng.choice(s._fields + ('direction', 'position', 'position'))
+    value = getattr(s, field)
+    if field == 'direction':
+        new = rng.choice([1 - value, 1 - value, 2, 3, rng.getrandbits(32)]) if value <= 1 else 0
+    elif field == 'position':
+        new = rng.choice([0, value + 1, rng.randint(0, 40), yildreuz.GREATEST - rng.randint(0, 4)])
+    elif field == 'node':
+        new = rng.choice([0, n + 1, rng.randint(1, n + 1), rng.randint(1, n + 1), rng.getrandbits(32)])
+    else:
+        new = rng.choice([0, value + 1, max(value, 1) - 1, rng.getrandbits(32)])
+    return s._replace(**{field: min(new, yildreuz.GREATEST)})
+
+
+# ---- what a call must answer
+
+def session_of(s):
+    return reference.Session(s.node, 'du'[s.direction], s.position, s.log_len, s.tape_len)
+
+
+def numbers_of(se):
+    return yildreuz.Session(se.node, 'du'.index(se.dir), se.position, se.log_len, se.tape_len)
+
+
+def expected(name, w, n, s, log, tape, number):
+    """The outcome; log and tape are lists, changed in place."""
+    if s.direction > 1:  # 9, after 7 and 8
+        refusal = 7 if reference.accepted(w, n) is None else 8 if max(len(log), len(tape)) > 16384 else 9
+        return yildreuz.Outcome(s, 0, CODES['refused'], refusal, 0, 0)
+    if name == 'go_to':
+        se, steps, stop, peak = reference.go_to(w, n, session_of(s), log, tape, number)
+    else:
+        se, steps, stop, peak = reference.call(w, n, session_of(s), log, tape, number, name == 'back')
+    if stop.split()[0] in ('answer', 'refused'):
+        stop, value = stop.split()
+        return yildreuz.Outcome(numbers_of(se), steps, CODES[stop], int(value), 0, peak)
+    return yildreuz.Outcome(numbers_of(se), steps, CODES[stop], 0, 0, peak)
+
+
+# ---- the comparison
+
+class Comparison:
+    def __init__(self, lib, seed):
+        self.lib, self.rng, self.seen = lib, random.Random(seed), Counter()
+
+    def note(self, call, what):
+        self.seen[call, what] += 1
+
+    def calls(self):
+        return sum(self.seen.values())
+
+    def same(self, got, want, given):
+        if got != want:
+            raise AssertionError('%s\n   got %s\n  want %s' % (given, got, want))
+
+    def read(self):
+        """Reads a random text; the table and n."""
+        text = random_text(self.rng)
+        want = reference.read(text, 10 ** 9)[0]
+        room = max(0, 5 * want + self.rng.choice([0, 0, 0, 1, 7, -1]))
+        before = [self.rng.getrandbits(32) for _ in range(room)]
+        table = Lent(self.rng, before)
+        got = self.lib.read(text, table.part)
+        n, refusal, words = reference.read(text, room)
+        self.same((got, table.now()), (yildreuz.Reading(n, refusal), words + before[len(words):]), ('read', text, room))
+        self.note('read', 'refused %d' % refusal if refusal else 'read')
+        return table, n
+
+    def room(self):
+        """How long a slice is: mostly enough, at times too short, and at times too long to be permitted."""
+        return self.rng.choice([0, 1, 2, 3, 5, 8, 16, 64, 64, 64]) if self.rng.random() < 0.995 else self.rng.choice([16384, 16385])
+
+    def open(self, table, n):
+        log, tape = (Lent(self.rng, [self.rng.getrandbits(32) for _ in range(self.room())]) for _ in range(2))
+        w, want_log, want_tape = table.now(), log.now(), tape.now()
+        got = self.lib.open(table.part, n, log.part, tape.part)
+        se, refusal = reference.open_session(w, n, want_log, want_tape)
+        self.same((got, table.now(), log.now(), tape.now()), (yildreuz.Opening(numbers_of(se), refusal), w, want_log, want_tape), ('open', w, n))
+        self.note('open', 'refused %d' % refusal if refusal else 'opened')
+        return got.session, log, tape
+
+    def number(self, name, position):
+        """A count or a position, at most FARTHEST steps away or where the call's position ends, so that no call takes long."""
+        away = self.rng.choice([0, 1, 2, 3, 7, 20, FARTHEST])
+        if name == 'go_to':
+            away *= self.rng.choice([1, 1, -1])
+            return min(max(position + away, 0), yildreuz.GREATEST)
+        ends_near = position < FARTHEST if name == 'back' else position > yildreuz.GREATEST - FARTHEST
+        return yildreuz.GREATEST - self.rng.randint(0, 2) if ends_near and self.rng.random() < 0.2 else away
+
+    def wind(self, table, n, s, log, tape):
+        """One call; its outcome."""
+        name = self.rng.choice(['forward', 'forward', 'back', 'go_to'])
+        number = self.number(name, s.position)
+        w, want_log, want_tape = table.now(), log.now(), tape.now()
+        given = (name, w, n, s, list(want_log), list(want_tape), number)
+        got = getattr(self.lib, name)(table.part, n, s, log.part, tape.part, number)
+        want = expected(name, w, n, s, want_log, want_tape, number)
+        self.same((got, table.now(), log.now(), tape.now()), (want, w, want_log, want_tape), given)
+        what = yildreuz.STOP_NAMES[got.stop]
+        self.note(name, 'no direction' if s.direction > 1 and got.value == 9 else 'refused %d' % got.value if what == 'refused' else what)
+        return got
+
+    def walk(self):
+        """A term, a session and some calls on it, damaged or not. What a damaged session or slice leads to is at times gone on with."""
+        rng = self.rng
+        table, n = self.read()
+        if n == 0 and rng.random() < 0.9:
+            return
+        if rng.random() < 0.05:
+            table, n = Lent(rng, damaged(rng, table.now(), n)), rng.choice([n, n, n + 1, max(n, 1) - 1, 3001])
+        s, log, tape = self.open(table, n)
+        for _ in range(rng.randint(1, 30)):
+            part = rng.random()
+            if part < 0.7:
+                s = self.wind(table, n, s, log, tape).session
+            elif part < 0.85:
+                out = self.wind(table, n, damaged_session(rng, s, n), log, tape)
+                if out.stop != yildreuz.REFUSED or rng.random() < 0.1:
+                    s = out.session
+            elif part < 0.9:
+                out = self.wind(Lent(rng, damaged(rng, table.now(), n)), rng.choice([n, n, n + 1, max(n, 1) - 1]), s, log, tape)
+                s = out.session
+            else:
+                others = [Lent(rng, damaged(rng, x.now(), n)) for x in (log, tape)]
+                if rng.random() < 0.05:
+                    others[rng.randrange(2)] = Lent(rng, [0] * 16385)
+                out = self.wind(table, n, s, *others)
+                if out.stop != yildreuz.REFUSED or rng.random() < 0.1:
+                    s, (log, tape) = out.session, others
+
+    def missing(self):
+        return ['%s: %s' % (call, what) for call, due in DUE.items() for what in sorted(due) if not self.seen[call, what]]
+
+    def shown(self):
+        return ['%-8s %s' % (call, ', '.join('%s %d' % (what, k) for (c, what), k in sorted(self.seen.items()) if c == call)) for call in DUE]
+
+
+if __name__ == '__main__':
+    if not 2 <= len(sys.argv) <= 4:
+        sys.exit(__doc__)
+    most, seed = (sys.argv[2:] + ['50000', '1'][len(sys.argv) - 2:])[:2]
+    comparison = Comparison(yildreuz.Library(sys.argv[1]), int(seed))
+    while comparison.calls() < int(most):
+        comparison.walk()
+    print('\n'.join(comparison.shown()))
+    if comparison.missing():
+        sys.exit('never came up: ' + '; '.join(comparison.missing()))
+    print('%d random calls agree (seed %s)' % (comparison.calls(), seed))
