@@ -23,6 +23,10 @@
      5  it has a name without a binder                   the direction is neither 0 nor 1
    The numbers are tested in their order: 1 to 6 by read, 7 and 8 by open, 7 to 9 by the other three.
 
+   What holds after every list of calls. Open a session on a table that was read, and hand each call of forward, back and
+   go_to the session, log and tape that the one before left: then these are, word for word, those of the machine after as
+   many steps as the position says, however the calls were mixed. This is proved, as is every answer of every call.
+
    Stack. A call needs no more than the constants below say: measured on the deepest texts and tables that there are, and
    rounded up. */
 #ifndef YILDREUZ_H

@@ -110,7 +110,7 @@ def _lent(*buffers):
 
 
 def _lent_text(text):
-    text = bytes(text)
+    text = bytes(memoryview(text))  # an error for what has no bytes
     return (ctypes.c_uint8 * (len(text) or 1)).from_buffer_copy(text or b'\0'), len(text)
 
 

@@ -5,7 +5,7 @@
 
 Texts are closed terms, written with blanks and brackets that the grammar permits, and damaged ones; tables, slices and sessions are those that the calls
 left, and damaged ones. Every number of every answer is compared, every word of every lent slice, and the words that stand before and after it. At the end
-every stop and every refusal must have come up, from each call that gives it.
+every stop and every refusal must have come up, from each call that gives it. First, what the wrapper itself must refuse.
 """
 import pathlib
 import random
@@ -243,11 +243,47 @@ class Comparison:
         return ['%-8s %s' % (call, ', '.join('%s %d' % (what, k) for (c, what), k in sorted(self.seen.items()) if c == call)) for call in DUE]
 
 
+# ---- what the wrapper itself must refuse, before the call
+
+def refuses_misuse(lib):
+    """Buffers that are no slices of words, slices that overlap, and numbers that are no words: each is an error, and no word differs."""
+    table, log, tape = yildreuz.words(10), yildreuz.words(4), yildreuz.words(4)
+    n = lib.read(rb'\x.x', table).n
+    start = lib.open(table, n, log, tape).session
+    shared = memoryview(yildreuz.words(8))
+    misuses = [
+        (ValueError, lambda: lib.open(table, n, log, log)),
+        (ValueError, lambda: lib.open(table, n, shared[:5], shared[4:])),
+        (ValueError, lambda: lib.forward(table, n, start, log, memoryview(table)[3:5], 1)),
+        (TypeError, lambda: lib.read(4, table)),
+        (TypeError, lambda: lib.read('\\x.x', table)),
+        (TypeError, lambda: lib.read(rb'\x.x', bytes(40))),
+        (TypeError, lambda: lib.read(rb'\x.x', array('H', bytes(40)))),
+        (TypeError, lambda: lib.read(rb'\x.x', [0] * 10)),
+        (TypeError, lambda: lib.read(rb'\x.x', memoryview(bytearray(41))[1:].cast('I'))),
+        (TypeError, lambda: lib.read(rb'\x.x', shared[::2])),
+        (OverflowError, lambda: lib.open(table, -1, log, tape)),
+        (OverflowError, lambda: lib.back(table, n, start, log, tape, yildreuz.GREATEST + 1)),
+        (OverflowError, lambda: lib.go_to(table, n, start._replace(node=yildreuz.GREATEST + 2), log, tape, 0)),
+    ]
+    before = [list(x) for x in (table, log, tape, shared)]
+    for number, (error, misuse) in enumerate(misuses):
+        try:
+            misuse()
+        except error:
+            continue
+        raise AssertionError('misuse %d is not refused' % number)
+    if before != [list(x) for x in (table, log, tape, shared)]:
+        raise AssertionError('a misuse has changed a word')
+
+
 if __name__ == '__main__':
     if not 2 <= len(sys.argv) <= 4:
         sys.exit(__doc__)
     most, seed = (sys.argv[2:] + ['50000', '1'][len(sys.argv) - 2:])[:2]
-    comparison = Comparison(yildreuz.Library(sys.argv[1]), int(seed))
+    lib = yildreuz.Library(sys.argv[1])
+    refuses_misuse(lib)
+    comparison = Comparison(lib, int(seed))
     while comparison.calls() < int(most):
         comparison.walk()
     print('\n'.join(comparison.shown()))

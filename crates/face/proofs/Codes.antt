@@ -25,10 +25,6 @@ no-direction zero h = absurd (omega (arith, h))
 no-direction (suc zero) h = absurd (omega (arith, h))
 no-direction (suc (suc k)) h = refl
 
--- a host's numbers with another direction
-abbrev pub toward : HostSession → ℕ → HostSession
-toward s d = record { node = s .node; direction = d; position = s .position; «log_len» = s .«log_len»; «tape_len» = s .«tape_len» }
-
 -- Sessions: a session told and read again is the same,
 
 pub session-told : (s : Session) → sessionIn (sessionNumbers s) ≡ some s
@@ -41,7 +37,10 @@ session-told s = by-dir (s .dir) refl
 pub sessions-injective : (s t : Session) → sessionNumbers s ≡ sessionNumbers t → s ≡ t
 sessions-injective s t h = Option·some-injective s t (sym (session-told s) ∙ ap sessionIn h ∙ session-told t)
 
--- and so are a host's numbers that stand for one.
+-- and so are a host's numbers that stand for one. (Their direction is taken apart, the rest stays.)
+abbrev pub toward : HostSession → ℕ → HostSession
+toward s d = record { node = s .node; direction = d; position = s .position; «log_len» = s .«log_len»; «tape_len» = s .«tape_len» }
+
 pub numbers-told : (s : HostSession) (se : Session) → sessionIn s ≡ some se → sessionNumbers se ≡ s
 numbers-told s se e = by-direction (s .direction) e
   where

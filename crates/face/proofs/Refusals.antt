@@ -4,11 +4,10 @@ use mathlib.Core.Bool.{Bool, true, false}
 use mathlib.Core.Option.{Option, none, some}
 use mathlib.Core.List.{List}
 use Prim.Native.Nat.{ℕ, _≤_, _<_}
-use native.Mathlib.Omega.{arith}
 use lib.ListN.{length}
 use Rattle.term.specs.Accepted.{Accepted, accepted}
 use Rattle.term.proofs.Accepted.{accepts-all, accepts-only}
-use Rattle.calls.specs.Session.{Session, Stop, spent, jam, far, start, logFull, tapeFull, answer, refused, Outcome, Given}
+use Rattle.calls.specs.Session.{Session, Stop, refused, Outcome, Given}
 use Rattle.calls.specs.Calls.{longest, lentNumber}
 use Rattle.calls.specs.Demand.{Move, outcomeOf, RefusedCall}
 use Rattle.calls.proofs.Unrefused.{lent-seven, lent-log-eight, lent-tape-eight, lent-unrefused}
@@ -16,7 +15,7 @@ use Rattle.calls.proofs.Answers.{refused-unchanged}
 use Rattle.face.specs.declared.HostSession.{HostSession}
 use Rattle.face.specs.Numbers.{sessionNumbers, sessionIn, stopCode, stopValue}
 use Rattle.face.specs.Told.{refusedTold, noSessionNumber, calledOn, called}
-use Rattle.face.proofs.Codes.{no-direction, numbers-told}
+use Rattle.face.proofs.Codes.{no-direction, numbers-told, codes-injective}
 
 -- A direction above 1, whatever the call.
 module _ (call : Given → Outcome) (w : List ℕ) (n : ℕ) (s : HostSession) (ls ts : List ℕ) (h : 1 < s .direction) where
@@ -47,14 +46,7 @@ module _ (call : Given → Outcome) (w : List ℕ) (n : ℕ) (s : HostSession) (
 
 -- Code 7 is a refusal's alone.
 code-7 : (x : Stop) → stopCode x ≡ 7 → x ≡ refused (stopValue x)
-code-7 spent e = absurd (omega (arith, e))
-code-7 (answer i) e = absurd (omega (arith, e))
-code-7 jam e = absurd (omega (arith, e))
-code-7 far e = absurd (omega (arith, e))
-code-7 start e = absurd (omega (arith, e))
-code-7 logFull e = absurd (omega (arith, e))
-code-7 tapeFull e = absurd (omega (arith, e))
-code-7 (refused k) e = refl
+code-7 x e = codes-injective x (refused (stopValue x)) e refl
 
 -- Forward, back and go-to, whatever the number.
 module _ (m : Move) (c : ℕ) (w : List ℕ) (n : ℕ) (s : HostSession) (ls ts : List ℕ) where

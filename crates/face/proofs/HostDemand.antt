@@ -1,0 +1,57 @@
+-- The third demand for a host, from that of the calls: what a call told stands for itself again.
+use mathlib.Core.Path.{_≡_, refl, sym, ap, subst}
+use mathlib.Core.List.{List, [], _∷_}
+use Prim.Native.Nat.{ℕ}
+use Rattle.term.specs.Table.{Table}
+use Rattle.machine.specs.Machine.{State}
+use Rattle.calls.specs.Session.{Outcome}
+use Rattle.calls.specs.Stops.{Room}
+use Rattle.calls.specs.Demand.{Move, Call, outcomeOf, AllPermitted, Standing, leftBy, givenTo, positionBy, AsPlain, Demanded}
+use Rattle.calls.specs.Demand
+use Rattle.calls.proofs.Third.{third-demand}
+use Rattle.face.specs.Told.{outcomeTold}
+use Rattle.face.specs.HostDemand.{Kept, keptOf, HostCall, own, other, answerTo, AllPermittedCalls, keptBy, HostDemanded, HostDemand}
+use Rattle.face.proofs.Codes.{told-again}
+use Rattle.face.proofs.Refusals.{refusal-gives-back}
+
+-- the calls of its own, as the third demand has them
+abbrev owns : List HostCall → List Call
+owns [] = []
+owns (own m c u ∷ cs) = Demand.own m c u ∷ owns cs
+owns (other m c u k h ∷ cs) = owns cs
+
+permitted : (w : List ℕ) (n : ℕ) (cs : List HostCall) → AllPermittedCalls w n cs → AllPermitted w n (owns cs)
+permitted w n [] a = tt
+permitted w n (own m c u ∷ cs) a = (a .0, permitted w n cs (a .1))
+permitted w n (other m c u k h ∷ cs) a = permitted w n cs (a .1)
+
+answered : (m : Move) (c : ℕ) (u : List ℕ) (n : ℕ) (st : Standing) → answerTo m c u n (keptOf st) ≡ outcomeTold (outcomeOf m (givenTo u n st) c)
+answered m c u n st = told-again (λ g. outcomeOf m g c) u n (st .session) (st .log) (st .tape)
+
+module _ (T : Table) (s₀ : State) (r : Room) (n : ℕ) where
+  stands : (cs : List Call) (p : ℕ) (st : Standing) → Demanded T s₀ r n cs p st → AsPlain T s₀ r p st
+  unfolding Demanded
+  stands [] p st d = d
+  stands (c ∷ cs) p st d = d .0
+
+  told-demanded : (w : List ℕ) (cs : List HostCall) (p : ℕ) (st : Standing) → AllPermittedCalls w n cs → Demanded T s₀ r n (owns cs) p st
+      → HostDemanded T s₀ r n cs p (keptOf st)
+  unfolding Demanded HostDemanded
+  told-demanded w [] p st a d = (st, d, refl)
+  told-demanded w (own m c u ∷ cs) p st a d =
+      let o : Outcome = outcomeOf m (givenTo u n st) c in
+      let goes-on : keptOf (leftBy o) ≡ keptBy (answerTo m c u n (keptOf st)) = sym (ap keptBy (answered m c u n st)) in (
+        (st, d .0, refl),
+        (o, d .1, answered m c u n st),
+        subst (λ h. HostDemanded T s₀ r n cs (positionBy T s₀ r m c p) h) goes-on (told-demanded w cs (positionBy T s₀ r m c p) (leftBy o) (a .1) (d .2)),
+      )
+  told-demanded w (other m c u k h ∷ cs) p st a d = (
+    (st, stands (owns cs) p st d, refl),
+    (answerTo m c u k h .0 .value, refusal-gives-back m c u k (h .session) (h .log) (h .tape) (a .0)),
+    told-demanded w cs p st (a .1) d,
+  )
+
+pub host-demand : HostDemand
+host-demand w n ls ts A short-log short-tape =
+    let demand = third-demand w n ls ts A short-log short-tape in
+    (demand .0, λ cs a. told-demanded _ _ _ n w cs 0 _ a (demand .1 (owns cs) (permitted w n cs a)))

@@ -1,0 +1,80 @@
+-- The third demand of document 01 for a host: after every list of its calls, what it keeps is the plain machine's after p steps, told in numbers.
+-- The theorem is `host-demand` (proofs/HostDemand.antt).
+use mathlib.Core.Path.{_≡_}
+use mathlib.Core.List.{List, [], _∷_}
+use Prim.Native.Nat.{ℕ, _*_, _≤_}
+use lib.ListN.{length, take}
+use Rattle.term.specs.Table.{Table, tableIn}
+use Rattle.term.specs.Accepted.{Accepted}
+use Rattle.machine.specs.Machine.{State, startState}
+use Rattle.calls.specs.Session.{Outcome}
+use Rattle.calls.specs.Stops.{Room, room}
+use Rattle.calls.specs.Calls.{longest, openOf}
+use Rattle.calls.specs.Demand.{Move, outcomeOf, Standing, OwnCall, positionBy, AsPlain}
+use Rattle.face.specs.declared.HostSession.{HostSession}
+use Rattle.face.specs.declared.HostOpening.{HostOpening}
+use Rattle.face.specs.declared.HostOutcome.{HostOutcome}
+use Rattle.face.specs.Numbers.{sessionNumbers}
+use Rattle.face.specs.Told.{openTold, outcomeTold, refusedTold, called}
+
+-- what a host keeps between two calls
+pub record Kept : Type 0 where
+  pub session : HostSession
+  pub log : List ℕ
+  pub tape : List ℕ
+
+abbrev pub keptOf : Standing → Kept
+keptOf st = record { session = sessionNumbers (st .session); log = st .log; tape = st .tape }
+
+-- A call of the list: its own gets what the host keeps, and brings a slice that has the opened table; another's gets whatever it is handed.
+pub data HostCall : Type 0 where
+  own : Move → ℕ → List ℕ → HostCall
+  other : Move → ℕ → List ℕ → ℕ → Kept → HostCall
+
+abbrev pub answerTo : Move → ℕ → List ℕ → ℕ → Kept → HostOutcome × List ℕ × List ℕ
+answerTo m c w n h = called (λ g. outcomeOf m g c) w n (h .session) (h .log) (h .tape)
+
+-- another's stands there only as a refused one (7 is the code of a refusal)
+abbrev pub PermittedCall : List ℕ → ℕ → HostCall → Type 0
+PermittedCall w n (own m c u) = take (5 * n) u ≡ take (5 * n) w
+PermittedCall w n (other m c u k h) = answerTo m c u k h .0 .stop ≡ 7
+
+abbrev pub AllPermittedCalls : List ℕ → ℕ → List HostCall → Type 0
+AllPermittedCalls w n [] = Unit
+AllPermittedCalls w n (c ∷ cs) = PermittedCall w n c × AllPermittedCalls w n cs
+
+abbrev pub keptByOpen : HostOpening × List ℕ × List ℕ → Kept
+keptByOpen a = record { session = a .0 .session; log = a .1; tape = a .2 }
+
+abbrev pub keptBy : HostOutcome × List ℕ × List ℕ → Kept
+keptBy a = record { session = a .0 .session; log = a .1; tape = a .2 }
+
+-- "the list goes on with what stood before" a refused call, and with what each of its own left
+abbrev pub keptAfter : ℕ → Kept → HostCall → Kept
+keptAfter n h (own m c u) = keptBy (answerTo m c u n h)
+keptAfter n h (other m c u k g) = h
+
+module _ (T : Table) (s₀ : State) (r : Room) where
+  abbrev pub positionAfterCall : ℕ → HostCall → ℕ
+  positionAfterCall p (own m c u) = positionBy T s₀ r m c p
+  positionAfterCall p (other m c u k g) = p
+
+  -- the numbers and every word of both slices are those of the plain machine after p steps
+  abbrev pub KeptAsPlain : ℕ → Kept → Type 0
+  KeptAsPlain p h = (st : Standing) × AsPlain T s₀ r p st × (h ≡ keptOf st)
+
+  -- A call of the list's own tells an outcome as the third demand has it; a refused one gives back what it was handed.
+  abbrev pub ToldAsDemanded : ℕ → ℕ → Kept → HostCall → Type 0
+  ToldAsDemanded n p h (own m c u) = (o : Outcome) × OwnCall p (positionBy T s₀ r m c p) m c o × (answerTo m c u n h ≡ outcomeTold o)
+  ToldAsDemanded n p h (other m c u k g) = (x : ℕ) × (answerTo m c u k g ≡ refusedTold x (g .session) (g .log) (g .tape))
+
+  unfoldable pub HostDemanded : ℕ → List HostCall → ℕ → Kept → Type 0
+  HostDemanded n [] p h = KeptAsPlain p h
+  HostDemanded n (c ∷ cs) p h = KeptAsPlain p h × ToldAsDemanded n p h c × HostDemanded n cs (positionAfterCall p c) (keptAfter n h c)
+
+abbrev pub HostDemand : Type 0
+HostDemand =
+    (w : List ℕ) (n : ℕ) (ls ts : List ℕ) → Accepted w n → length ls ≤ longest → length ts ≤ longest
+    → (openTold (openOf w n ls ts) .0 .refusal ≡ 0)
+    × ((cs : List HostCall) → AllPermittedCalls w n cs
+    → HostDemanded (tableIn w n) startState (room ls ts) n cs 0 (keptByOpen (openTold (openOf w n ls ts))))
