@@ -27,6 +27,10 @@
    go_to the session, log and tape that the one before left: then these are, word for word, those of the machine after as
    many steps as the position says, however the calls were mixed. This is proved, as is every answer of every call.
 
+   How long a call takes. Each call ends; it first looks over the whole table and both slices, and then makes its steps,
+   which may be billions where the count, or the way to the position, is that long. A viewer that must stay awake winds
+   in pieces, and one that winds far does so by large counts rather than by many small ones.
+
    Stack. A call needs no more than the constants below say: measured on the deepest texts and tables that there are, and
    rounded up. */
 #ifndef YILDREUZ_H
