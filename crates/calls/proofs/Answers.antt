@@ -37,6 +37,11 @@ unchanged (some j) s g run stops k e = as-given j g
 unchanged none none g run stops k e = as-given 9 g
 unchanged none (some s) g run stops k e = absurd (subst IsStop e (stops (moment s (g .session .position))))
 
+-- what holds of forward and of back by a count holds of go-to
+either-way : (P : Outcome → Type 0) (b : Bool) (x y : Unit {0} → Outcome) → ((i : Unit {0}) → P (x i)) → ((i : Unit {0}) → P (y i)) → P (choose b x y)
+either-way P true x y f h = f tt
+either-way P false x y f h = h tt
+
 module _ (g : Given) (k : ℕ) where
   pub wind-refused : (way : Way) → callNumber g ≡ some k → (c : ℕ) → windOf way g c ≡ refusedOutcome k g
   unfolding windOf
@@ -48,11 +53,6 @@ module _ (g : Given) (k : ℕ) where
       let T : Table = tableIn (g .table) (g .n) in
       let r : Room = room (g .log) (g .tape) in
       unchanged (callNumber g) (stateGiven g) g (λ m. wind way T r c m) (λ m. wind-is-stop way T r c m) k e
-
-  -- what holds of forward and of back by a count holds of go-to
-  either-way : (P : Outcome → Type 0) (b : Bool) (x y : Unit {0} → Outcome) → ((i : Unit {0}) → P (x i)) → ((i : Unit {0}) → P (y i)) → P (choose b x y)
-  either-way P true x y f h = f tt
-  either-way P false x y f h = h tt
 
   pub move-refused : (m : Move) → callNumber g ≡ some k → (c : ℕ) → outcomeOf m g c ≡ refusedOutcome k g
   unfolding goToOf

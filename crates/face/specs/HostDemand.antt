@@ -2,15 +2,16 @@
 -- The theorem is `host-demand` (proofs/HostDemand.antt).
 use mathlib.Core.Path.{_≡_}
 use mathlib.Core.List.{List, [], _∷_}
-use Prim.Native.Nat.{ℕ, _*_, _≤_}
-use lib.ListN.{length, take}
+use Prim.Native.Nat.{ℕ, _≤_}
+use lib.ListN.{length}
 use Rattle.term.specs.Table.{Table, tableIn}
 use Rattle.term.specs.Accepted.{Accepted}
 use Rattle.machine.specs.Machine.{State, startState}
 use Rattle.calls.specs.Session.{Outcome}
 use Rattle.calls.specs.Stops.{Room, room}
 use Rattle.calls.specs.Calls.{longest, openOf}
-use Rattle.calls.specs.Demand.{Move, outcomeOf, Standing, OwnCall, positionBy, AsPlain}
+use Rattle.calls.specs.Demand
+use Rattle.calls.specs.Demand.{Move, outcomeOf, Permitted, Standing, OwnCall, positionBy, AsPlain}
 use Rattle.face.specs.declared.HostSession.{HostSession}
 use Rattle.face.specs.declared.HostOpening.{HostOpening}
 use Rattle.face.specs.declared.HostOutcome.{HostOutcome}
@@ -34,9 +35,9 @@ pub data HostCall : Type 0 where
 abbrev pub answerTo : Move → ℕ → List ℕ → ℕ → Kept → HostOutcome × List ℕ × List ℕ
 answerTo m c w n h = called (λ g. outcomeOf m g c) w n (h .session) (h .log) (h .tape)
 
--- another's stands there only as a refused one (7 is the code of a refusal)
+-- its own as the third demand has it; another's stands there only as a refused one (7 is the code of a refusal)
 abbrev pub PermittedCall : List ℕ → ℕ → HostCall → Type 0
-PermittedCall w n (own m c u) = take (5 * n) u ≡ take (5 * n) w
+PermittedCall w n (own m c u) = Permitted w n (Demand.own m c u)
 PermittedCall w n (other m c u k h) = answerTo m c u k h .0 .stop ≡ 7
 
 abbrev pub AllPermittedCalls : List ℕ → ℕ → List HostCall → Type 0

@@ -15,7 +15,7 @@ use Rattle.face.specs.declared.HostSession.{HostSession}
 use Rattle.face.specs.declared.HostOutcome.{HostOutcome}
 use Rattle.face.specs.Numbers.{sessionNumbers}
 use Rattle.face.specs.Told.{toldWith, outcomeTold, noSessionNumber, called}
-use Rattle.yildreuz.specs.Given.{madeWith, sessionAfter, givenBack}
+use Rattle.yildreuz.specs.Given.{madeWith, keptSession, givenBack}
 use Rattle.face.proofs.Codes.{toward}
 
 -- Node 0 holds no state, so 9 applies where 7 and 8 do not.
@@ -34,7 +34,7 @@ nowhere g e = by-lent (lentNumber (g .table) (g .n) (g .log) (g .tape)) refl
 given-told : (s : HostSession) (o : Outcome) → ((k : ℕ) → o .stop ≡ refused k → sessionNumbers (o .session) ≡ s) → givenBack s o ≡ outcomeTold o
 given-told s o back = ap (λ z. toldWith z o) (by-stop (o .stop) refl)
   where
-    by-stop : (x : Stop) → o .stop ≡ x → sessionAfter s x (sessionNumbers (o .session)) ≡ sessionNumbers (o .session)
+    by-stop : (x : Stop) → o .stop ≡ x → keptSession s x (sessionNumbers (o .session)) ≡ sessionNumbers (o .session)
     by-stop spent e = refl
     by-stop (answer i) e = refl
     by-stop jam e = refl

@@ -31,16 +31,16 @@ madeWith s = record {
   tapeLength = s .«tape_len»;
 }
 
--- the numbers given where the call is refused, and else those after it
-abbrev pub sessionAfter : HostSession → Stop → HostSession → HostSession
-sessionAfter given spent next = next
-sessionAfter given (answer i) next = next
-sessionAfter given jam next = next
-sessionAfter given far next = next
-sessionAfter given start next = next
-sessionAfter given logFull next = next
-sessionAfter given tapeFull next = next
-sessionAfter given (refused k) next = given
+-- what the host keeps as its session: the numbers given where the call is refused, and else those after it
+abbrev pub keptSession : HostSession → Stop → HostSession → HostSession
+keptSession given spent next = next
+keptSession given (answer i) next = next
+keptSession given jam next = next
+keptSession given far next = next
+keptSession given start next = next
+keptSession given logFull next = next
+keptSession given tapeFull next = next
+keptSession given (refused k) next = given
 
 abbrev pub givenBack : HostSession → Outcome → HostOutcome × List ℕ × List ℕ
-givenBack given o = toldWith (sessionAfter given (o .stop) (sessionNumbers (o .session))) o
+givenBack given o = toldWith (keptSession given (o .stop) (sessionNumbers (o .session))) o

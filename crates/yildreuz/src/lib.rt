@@ -59,7 +59,7 @@ enum Move {
 }
 
 // The call itself.
-fn wound(
+fn call_made(
     table: &[u32],
     n: u32,
     session: Session,
@@ -92,7 +92,7 @@ fn call(
         ≡ called (λ g. outcomeOf (moveMeant m) g number) (now (table .entry)) n session (now (log .entry)) (now (tape .entry)) ⌝ }
 {
     let s = made_with(session);
-    let o = wound(table, n, s, log, tape, m, number);
+    let o = call_made(table, n, s, log, tape, m, number);
     given_back(session, o)
 }
 

@@ -4,7 +4,7 @@ ghost use mathlib.Core.List.{List};
 ghost use Prim.Native.Nat.{ℕ};
 ghost use Rattle.session.specs.Types.{dirMeant, sessionMeant, stopMeant, outcomeMeant};
 ghost use Rattle.face.specs.Numbers.{dirNumber, sessionNumbers, stopCode, stopValue};
-ghost use Rattle.yildreuz.specs.Given.{madeWith, sessionAfter, givenBack};
+ghost use Rattle.yildreuz.specs.Given.{madeWith, keptSession, givenBack};
 use face::HostOutcome;
 use face::HostSession;
 use session::Dir;
@@ -80,8 +80,8 @@ fn stop_value(stop: Stop) -> u32
 }
 
 // A refusal gives back the numbers given: those that stand for no session too.
-fn session_after(given: HostSession, stop: Stop, next: HostSession) -> HostSession
-    ensures { λ r. ⌜ r ≡ sessionAfter given (stopMeant stop) next ⌝ }
+fn kept_session(given: HostSession, stop: Stop, next: HostSession) -> HostSession
+    ensures { λ r. ⌜ r ≡ keptSession given (stopMeant stop) next ⌝ }
 {
     match stop {
         Stop::Spent => next,
@@ -102,7 +102,7 @@ pub(crate) fn given_back(given: HostSession, o: Outcome) -> HostOutcome
     let stop = o.stop;
     let last = o.session;
     let next = session_numbers(last);
-    let session = session_after(given, stop, next);
+    let session = kept_session(given, stop, next);
     HostOutcome {
         session: session,
         steps: o.steps,

@@ -8,8 +8,8 @@ use Rattle.yildreuz.proofs.call.Tie as tie
 made-with-requires : tie.Need-made-with-requires
 made-with-requires c κs = search needs
 
-wound-requires : tie.Need-wound-requires
-wound-requires c κs = search needs
+call-made-requires : tie.Need-call-made-requires
+call-made-requires c κs = search needs
 
 given-back-requires : tie.Need-given-back-requires
 given-back-requires c κs = search needs
@@ -22,10 +22,10 @@ same-length-2 c = search needs
 
 returns : tie.Need-returns
 returns c =
-    let wound = c .before .before .before .before .before in
-    let made = wound .before .before .before in
+    let called = c .before .before .before .before .before in
+    let made = called .before .before .before in
     let a = made .before .before .before .before .args in
-    told-so (moveMeant (a .m)) (a .number) (a .table .now) (a .n) (a .session) (a .log .now) (a .tape .now) (c .given-back .ensures _ _) (wound .wound .ensures) (made .made-with .ensures)
+    told-so (moveMeant (a .m)) (a .number) (a .table .now) (a .n) (a .session) (a .log .now) (a .tape .now) (c .given-back .ensures _ _) (called .call-made .ensures) (made .made-with .ensures)
 
 pub call-spec : {M : Type 1} → statement M
-call-spec = tie.close (tie.spec made-with-requires wound-requires given-back-requires same-length same-length-2 returns)
+call-spec = tie.close (tie.spec made-with-requires call-made-requires given-back-requires same-length same-length-2 returns)

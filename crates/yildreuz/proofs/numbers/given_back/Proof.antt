@@ -5,8 +5,8 @@ use Rattle.yildreuz.proofs.numbers.given_back.Tie as tie
 session-numbers-requires : tie.Need-session-numbers-requires
 session-numbers-requires c κs = search needs
 
-session-after-requires : tie.Need-session-after-requires
-session-after-requires c κs = search needs
+kept-session-requires : tie.Need-kept-session-requires
+kept-session-requires c κs = search needs
 
 stop-code-requires : tie.Need-stop-code-requires
 stop-code-requires c κs = search needs
@@ -16,11 +16,11 @@ stop-value-requires c κs = search needs
 
 returns : tie.Need-returns
 returns c ls ts = rw (
-  c .before .before .session-after .ensures,
+  c .before .before .kept-session .ensures,
   c .before .before .before .session-numbers .ensures,
   c .before .stop-code .ensures,
   c .stop-value .ensures,
 )
 
 pub given-back-spec : {M : Type 1} → statement M
-given-back-spec = tie.close (tie.spec session-numbers-requires session-after-requires stop-code-requires stop-value-requires returns)
+given-back-spec = tie.close (tie.spec session-numbers-requires kept-session-requires stop-code-requires stop-value-requires returns)

@@ -1,7 +1,7 @@
--- `wound`: the call of its case.
+-- `call_made`: the call of its case.
 use borrow.Author.Needs.{needs}
-use Rattle.yildreuz.proofs.wound.Statement.{statement}
-use Rattle.yildreuz.proofs.wound.Tie as tie
+use Rattle.yildreuz.proofs.call_made.Statement.{statement}
+use Rattle.yildreuz.proofs.call_made.Tie as tie
 
 enum-told : tie.Need-enum-told
 enum-told c = search needs
@@ -48,8 +48,8 @@ same-length-6 c = search needs
 returns-3 : tie.Need-returns-3
 returns-3 c = let made = c .before .before .before .before in rw (made .before .before .before .enum-told3 .given .1) (made .go-to .ensures)
 
-pub wound-spec : {M : Type 1} → statement M
-wound-spec =
+pub call-made-spec : {M : Type 1} → statement M
+call-made-spec =
     tie.close
     (tie.spec
     enum-told
