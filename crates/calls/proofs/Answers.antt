@@ -67,7 +67,7 @@ module _ (g : Given) (k : ℕ) where
 
 -- A call that enters at a state winds from it.
 module _ (g : Given) (s : State) (h : Enters g s) where
-  state-given : stateGiven g ≡ some s
+  pub state-given : stateGiven g ≡ some s
   state-given = held-exactly (tableIn (g .table) (g .n)) (accepted-facts (g .table) (g .n) (h .accepted-table)) (g .session) (g .log) (g .tape) s .1 (h .holds)
 
   pub enters-unrefused : callNumber g ≡ none

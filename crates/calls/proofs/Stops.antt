@@ -1,17 +1,17 @@
 -- The stops in their order: each comes before those after it, whatever these would say, and no stop means that there is a step and that it fits.
-use mathlib.Core.Path.{_≡_, refl, sym, ap, _∙_, subst}
+use mathlib.Core.Path.{_≡_, refl, sym, ap, _∙_}
 use mathlib.Core.Bool.{Bool, true, false}
 use mathlib.Core.Option.{Option, none, some, Option·some-ne-none}
-use mathlib.Core.List.{List, [], _∷_, _++_}
+use mathlib.Core.List.{_++_}
 use Prim.Native.Nat.{ℕ, suc, _<_, _≤_}
 use native.Mathlib.Omega.{arith}
 use lib.Dec.{eqb·suc-zero}
 use borrow.Author.Tests.{eq-eqb, ne-eqb, lt-ltb, le-ltb}
-use Rattle.term.specs.Choice.{Test, _⇒_, first, ifSome}
+use Rattle.term.specs.Choice.{first, ifSome}
 use Rattle.term.specs.Table.{Table}
 use Rattle.machine.specs.Machine.{State, step, stepBack}
 use Rattle.calls.specs.Session.{Stop, spent, jam, far, start, logFull, tapeFull, answer, refused}
-use Rattle.calls.proofs.Order.{first-of-both}
+use Rattle.calls.proofs.Order.{first-of-both, first-names}
 use Rattle.calls.specs.Stops.{Way, forward, back, Moment, moment, Room, greatest, logSize, tapeSize, nextBy, isAnswer, haltTests, haltBefore, fullTests, stopBefore}
 
 -- a state's lists are no longer than the slices
@@ -87,25 +87,11 @@ IsStop tapeFull = Unit
 IsStop (answer i) = Unit
 IsStop (refused k) = ⊥
 
-abbrev AllStops : List (Test Stop) → Type 0
-AllStops [] = Unit
-AllStops ((b ⇒ x) ∷ ts) = IsStop x × AllStops ts
-
-abbrev IsStopIf : Option Stop → Type 0
-IsStopIf none = Unit
-IsStopIf (some x) = IsStop x
-
-first-is-stop : (ts : List (Test Stop)) → AllStops ts → IsStopIf (first ts)
-first-is-stop [] h = tt
-first-is-stop ((true ⇒ x) ∷ ts) h = h .0
-first-is-stop ((false ⇒ x) ∷ ts) h = first-is-stop ts (h .1)
-
 pub stop-is-stop : (way : Way) (T : Table) (r : Room) (count : ℕ) (m : Moment) (x : Stop) → stopBefore way T r count m ≡ some x → IsStop x
 unfolding stopBefore
-stop-is-stop forward T r count m x e =
-    subst IsStopIf e (first-is-stop (haltTests forward T count m ++ fullTests r (nextBy forward T m)) (tt, (tt, (tt, (tt, (tt, (tt, tt)))))))
-stop-is-stop back T r count m x e =
-    subst IsStopIf e (first-is-stop (haltTests back T count m ++ fullTests r (nextBy back T m)) (tt, (tt, (tt, (tt, (tt, tt))))))
+stop-is-stop forward T r count m =
+    first-names IsStop (haltTests forward T count m ++ fullTests r (nextBy forward T m)) (tt, (tt, (tt, (tt, (tt, (tt, tt))))))
+stop-is-stop back T r count m = first-names IsStop (haltTests back T count m ++ fullTests r (nextBy back T m)) (tt, (tt, (tt, (tt, (tt, tt)))))
 
 -- what no stop before a step forward says
 module _ (T : Table) (r : Room) where

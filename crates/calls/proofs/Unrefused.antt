@@ -4,17 +4,22 @@ use mathlib.Core.Bool.{true, false, or-true}
 use mathlib.Core.Option.{none, some}
 use mathlib.Core.List.{List, [], _∷_}
 use Prim.Native.Nat.{ℕ, _≤_, _<_}
+use native.Mathlib.Omega.{arith}
 use lib.ListN.{length}
 use borrow.Author.Tests.{lt-ltb, le-ltb}
 use Rattle.term.specs.Choice.{_⇒_, first, isNone, ifSome}
 use Rattle.term.specs.Accepted.{accepted}
 use Rattle.machine.specs.Machine.{State}
 use Rattle.calls.specs.Session.{Given}
-use Rattle.calls.specs.Calls.{longest, tooLong, lentTests, lentNumber, stateGiven, callNumber}
-use Rattle.calls.proofs.Order.{first-of-both}
+use Rattle.calls.specs.Calls.{longest, tooLong, lentTests, lentNumber, stateGiven, callTests, callNumber}
+use Rattle.calls.proofs.Order.{first-of-both, first-names}
 
 -- 7 and 8, of what every call is lent
 module _ (w : List ℕ) (n : ℕ) (ls ts : List ℕ) where
+  pub lent-names : (k : ℕ) → lentNumber w n ls ts ≡ some k → (7 ≤ k) × (k ≤ 8)
+  unfolding lentNumber
+  lent-names = first-names (λ k. (7 ≤ k) × (k ≤ 8)) (lentTests w n ls ts) ((omega arith, omega arith), ((omega arith, omega arith), tt))
+
   pub lent-seven : accepted w n ≡ false → lentNumber w n ls ts ≡ some 7
   unfolding lentNumber
   lent-seven a = rw a
@@ -36,6 +41,10 @@ module _ (w : List ℕ) (n : ℕ) (ls ts : List ℕ) where
 
 -- forward, back and go-to: these, and then 9
 module _ (g : Given) where
+  pub call-names : (k : ℕ) → callNumber g ≡ some k → (7 ≤ k) × (k ≤ 9)
+  unfolding callNumber
+  call-names = first-names (λ k. (7 ≤ k) × (k ≤ 9)) (callTests g) ((omega arith, omega arith), ((omega arith, omega arith), ((omega arith, omega arith), tt)))
+
   call-by : callNumber g ≡ ifSome (lentNumber (g .table) (g .n) (g .log) (g .tape)) (λ k. some k) (λ _. first ((isNone (stateGiven g) ⇒ 9) ∷ []))
   unfolding lentNumber callNumber
   call-by = first-of-both (lentTests (g .table) (g .n) (g .log) (g .tape)) ((isNone (stateGiven g) ⇒ 9) ∷ [])

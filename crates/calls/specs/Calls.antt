@@ -40,8 +40,11 @@ abbrev pub stateGiven : Given → Option State
 stateGiven g = stateIn (tableIn (g .table) (g .n)) (g .session) (g .log) (g .tape)
 
 -- "the others 7, 8, 9"
+abbrev pub callTests : Given → List (Test ℕ)
+callTests g = lentTests (g .table) (g .n) (g .log) (g .tape) ++ ((isNone (stateGiven g) ⇒ 9) ∷ [])
+
 unfoldable pub callNumber : Given → Option ℕ
-callNumber g = first (lentTests (g .table) (g .n) (g .log) (g .tape) ++ ((isNone (stateGiven g) ⇒ 9) ∷ []))
+callNumber g = first (callTests g)
 
 -- None of 7, 8 and 9 applies, and this is the state that the call is given: what `callNumber` tests, in words (`entered` and `enters-unrefused`, proofs/Answers.antt).
 pub record Enters (g : Given) (s : State) : Type 0 where

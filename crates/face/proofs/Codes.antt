@@ -1,6 +1,6 @@
 -- Nothing is lost in numbers: no two directions, sessions, stops or answers are told alike.
 use mathlib.Core.Path.{_≡_, refl, sym, ap, _∙_}
-use mathlib.Core.Option.{none, some, Option·some-injective, Option·none-ne-some}
+use mathlib.Core.Option.{Option, none, some, Option·some-injective, Option·none-ne-some}
 use mathlib.Core.List.{List}
 use Prim.Native.Nat.{ℕ, zero, suc, _<_}
 use native.Mathlib.Omega.{arith}
@@ -11,6 +11,10 @@ use Rattle.face.specs.declared.HostSession.{HostSession}
 use Rattle.face.specs.Numbers.{dirNumber, dirIn, sessionNumbers, sessionIn, stopCode, stopValue}
 use Rattle.face.specs.Told.{readTold, openTold, outcomeTold, called}
 
+-- What is told and read again is told apart.
+told-apart : {A B : Type 0} (tell : A → B) (read : B → Option A) → ((a : A) → read (tell a) ≡ some a) → (x y : A) → tell x ≡ tell y → x ≡ y
+told-apart tell read again x y h = Option·some-injective x y (sym (again x) ∙ ap read h ∙ again y)
+
 -- Directions.
 
 pub dir-told : (d : Dir) → dirIn (dirNumber d) ≡ some d
@@ -18,7 +22,7 @@ dir-told down = refl
 dir-told up = refl
 
 pub directions-injective : (d e : Dir) → dirNumber d ≡ dirNumber e → d ≡ e
-directions-injective d e h = Option·some-injective d e (sym (dir-told d) ∙ ap dirIn h ∙ dir-told e)
+directions-injective = told-apart (λ d. dirNumber d) dirIn dir-told
 
 pub no-direction : (k : ℕ) → 1 < k → dirIn k ≡ none
 no-direction zero h = absurd (omega (arith, h))
@@ -35,7 +39,7 @@ session-told s = by-dir (s .dir) refl
     by-dir up e = rw e
 
 pub sessions-injective : (s t : Session) → sessionNumbers s ≡ sessionNumbers t → s ≡ t
-sessions-injective s t h = Option·some-injective s t (sym (session-told s) ∙ ap sessionIn h ∙ session-told t)
+sessions-injective = told-apart (λ s. sessionNumbers s) sessionIn session-told
 
 -- and so are a host's numbers that stand for one. (Their direction is taken apart, the rest stays.)
 abbrev pub toward : HostSession → ℕ → HostSession

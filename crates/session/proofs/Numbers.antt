@@ -2,43 +2,34 @@
 use mathlib.Core.Path.{_≡_, refl, sym, ap}
 use mathlib.Core.Bool.{true, false, true≢false, false≢true}
 use mathlib.Core.Option.{Option, none, some}
-use mathlib.Core.List.{List, [], _∷_, _++_}
+use mathlib.Core.List.{List}
 use Prim.Native.Nat.{ℕ}
 use native.Mathlib.Nat.{sub-zero}
 use native.Mathlib.Omega.{arith}
 use lib.ListN.{length, replicate}
-use Rattle.term.specs.Choice.{Test, _⇒_, first, isNone}
+use Rattle.term.specs.Choice.{isNone}
 use Rattle.machine.specs.Machine.{State}
 use Rattle.machine.specs.Slice.{slice}
 use Rattle.calls.specs.Session.{Given}
 use Rattle.calls.specs.Stops.{startMoment}
-use Rattle.calls.specs.Calls.{lentTests, lentNumber, stateGiven, callNumber, noSession, sessionAt, openOf}
-use Rattle.calls.proofs.Unrefused.{call-nine, call-unrefused}
+use Rattle.calls.specs.Calls.{lentNumber, stateGiven, callNumber, noSession, sessionAt, openOf}
+use Rattle.calls.proofs.Unrefused.{lent-names, call-names, call-nine, call-unrefused}
 use Rattle.session.specs.Types.{numberMeant}
 
 pub number-some : (o : Option ℕ) (k : ℕ) → k ≡ numberMeant o → (k ≡ 0 → ⊥) → o ≡ some k
 number-some none k e z = absurd (z e)
 number-some (some j) k e z = ap some (sym e)
 
--- tests of which none names 0
-abbrev NoZero : List (Test ℕ) → Type 0
-NoZero [] = Unit
-NoZero ((b ⇒ k) ∷ ts) = (0 ≡ k → ⊥) × NoZero ts
-
-first-none : (ts : List (Test ℕ)) → NoZero ts → 0 ≡ numberMeant (first ts) → first ts ≡ none
-first-none [] z e = refl
-first-none ((true ⇒ k) ∷ ts) z e = absurd (z .0 e)
-first-none ((false ⇒ k) ∷ ts) z e = first-none ts (z .1) e
+number-none : (o : Option ℕ) → ((k : ℕ) → o ≡ some k → 0 ≡ k → ⊥) → 0 ≡ numberMeant o → o ≡ none
+number-none none z e = refl
+number-none (some k) z e = absurd (z k refl e)
 
 pub lent-none : (w : List ℕ) (n : ℕ) (ls ts : List ℕ) → 0 ≡ numberMeant (lentNumber w n ls ts) → lentNumber w n ls ts ≡ none
-unfolding lentNumber
-lent-none w n ls ts = first-none (lentTests w n ls ts) (λ e. omega arith, (λ e. omega arith, tt))
+lent-none w n ls ts = number-none (lentNumber w n ls ts) (λ k h z. let from-seven = lent-names w n ls ts k h .0 in omega arith)
 
 module _ (g : Given) where
   pub call-none : 0 ≡ numberMeant (callNumber g) → callNumber g ≡ none
-  unfolding callNumber
-  call-none =
-      first-none (lentTests (g .table) (g .n) (g .log) (g .tape) ++ ((isNone (stateGiven g) ⇒ 9) ∷ [])) (λ e. omega arith, (λ e. omega arith, (λ e. omega arith, tt)))
+  call-none = number-none (callNumber g) (λ k h z. let from-seven = call-names g k h .0 in omega arith)
 
   -- 9 or none, by whether there is a state
   module _ (e : lentNumber (g .table) (g .n) (g .log) (g .tape) ≡ none) where

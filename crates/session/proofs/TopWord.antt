@@ -16,7 +16,7 @@ use Rattle.session.specs.declared.Session as Declared
 use Rattle.session.proofs.Slices.{Lies, top-word}
 use Rattle.session.proofs.Arrivals.{tape-there}
 
-word-at : (ts : List ℕ) (m v : ℕ) (ws : List ℕ) → Lies ts m (v ∷ ws) → getD ts (m - 1) 0 ≡ v
+pub word-at : (ts : List ℕ) (m v : ℕ) (ws : List ℕ) → Lies ts m (v ∷ ws) → getD ts (m - 1) 0 ≡ v
 word-at ts m v ws p =
     let many = p .many in
     let fits = p .fits in
@@ -24,7 +24,7 @@ word-at ts m v ws p =
     (λ i. getD (p .words i) (below i) 0) ∙ top-word (length ts) v ws (omega arith)
 
 -- "A bullet is the word 0", and no variable is.
-not-zero : (T : Table) → Facts T → (v : ℕ) → kindAt T v ≡ variable → v ≡ 0 → ⊥
+pub not-zero : (T : Table) → Facts T → (v : ℕ) → kindAt T v ≡ variable → v ≡ 0 → ⊥
 not-zero T F v k z = let from-one : 1 ≤ v = is-node T F v variable k tt .from-one in omega arith
 
 no-item : (ts : List ℕ) (m : ℕ) (t : Tape) → Lies ts m (tapeWords t) → m ≡ 0 → t ≡ []

@@ -23,7 +23,7 @@ at-node-0 : (g : Given) → g .session .node ≡ 0 → stateGiven g ≡ none
 unfolding stateIn wellFormed
 at-node-0 g e = rw e
 
-nowhere : (g : Given) → g .session .node ≡ 0 → callNumber g ≡ some (noSessionNumber (g .table) (g .n) (g .log) (g .tape))
+pub nowhere : (g : Given) → g .session .node ≡ 0 → callNumber g ≡ some (noSessionNumber (g .table) (g .n) (g .log) (g .tape))
 nowhere g e = by-lent (lentNumber (g .table) (g .n) (g .log) (g .tape)) refl
   where
     by-lent : (o : Option ℕ) → lentNumber (g .table) (g .n) (g .log) (g .tape) ≡ o → callNumber g ≡ some (noSessionNumber (g .table) (g .n) (g .log) (g .tape))
