@@ -1,5 +1,5 @@
 #!/usr/bin/env python3
-"""An independent reading of document 01, from which the expected outputs of the programs `cases` and `winder` are worked out.
+"""An independent reading of document 01, and of change 1 of document 02, from which the expected outputs of the programs `cases` and `winder` are worked out.
 
   tools/reference.py cases < SCRIPT   what `cases` must print for a script of cases, as crates/cases/stdin (script.py)
   tools/reference.py winder < TERM    what `winder` must print for a term
@@ -349,6 +349,18 @@ def go_to(w, n, se, log, tape, q):
     if se.position <= q:
         return call(w, n, se, log, tape, q - se.position, False)
     return call(w, n, se, log, tape, se.position - q, True)
+
+
+def top(w, n, se, log, tape, which):
+    """Where the newest entry of 'log' or 'tape' begins in its slice, its words there from the low end, and the number."""
+    _, s, number = given(w, n, se, log, tape)
+    if number:
+        return 0, [], number
+    items, end = (s[2], se.log_len) if which == 'log' else (s[3], se.tape_len)
+    if not items:
+        return 0, [], 10
+    part = list(reversed(words(items[:1])))
+    return end - len(part), part, 0
 
 
 # ---- the program winder

@@ -1,7 +1,7 @@
 """The script of cases (crates/cases/stdin, which says its commands) on reference.py's reading of document 01: what the program `cases` must print."""
 from itertools import groupby
 
-from reference import GREATEST, START, Machine, Session, accepted, call, go_to, lay, open_session, read, wind, words
+from reference import GREATEST, START, Machine, Session, accepted, call, go_to, lay, open_session, read, top, wind, words
 
 LONGEST_SCRIPT, LONGEST_TEXT = 24575, 3001
 
@@ -37,11 +37,15 @@ class Slice:
         self.words[:self.given] = part
 
     def shown(self):
-        out = ''
-        for word, run in groupby(self.words):
-            times = len(list(run))
-            out += ' %d*%d' % (word, times) if times > 3 else ' %d' % word * times
-        return out
+        return shown(self.words)
+
+
+def shown(words):
+    out = ''
+    for word, run in groupby(words):
+        times = len(list(run))
+        out += ' %d*%d' % (word, times) if times > 3 else ' %d' % word * times
+    return out
 
 
 class Desk:
@@ -104,6 +108,12 @@ class Desk:
     def do_walk_back(self, count):
         return self.on_slices(lambda *lent: self.walked_back(*lent, count))
 
+    def do_log_top(self):
+        return self.on_slices(lambda *lent: topped(*top(*lent, 'log')))
+
+    def do_tape_top(self):
+        return self.on_slices(lambda *lent: topped(*top(*lent, 'tape')))
+
     def on_slices(self, made):
         log, tape = self.log.part(), self.tape.part()
         answer = made(self.table.part(), self.n, self.session, log, tape)
@@ -136,6 +146,10 @@ class Desk:
         return self.wound(outcome) + ' agreed %d' % agreed
 
 
+def topped(_offset, part, number):
+    return ' refusal %d part%s' % (number, shown(part))
+
+
 def agrees(states, session, log, tape):
     p = min(session.position, len(states) - 1)
     if p < 0 or (len(log), len(tape)) != (64, 64):
@@ -163,7 +177,7 @@ def plain_states(table, n, count, log_room, tape_room):
 SHAPES = {
     'text': (0, True), 'n': (1, False), 'down': (4, False), 'up': (4, False), 'tower': (1, False),
     'read': (0, True), 'accept': (0, True), 'open': (0, True), 'forward': (1, True), 'back': (1, True), 'go-to': (1, True),
-    'walk': (1, True), 'walk-back': (1, True),
+    'walk': (1, True), 'walk-back': (1, True), 'log-top': (0, True), 'tape-top': (0, True),
 }
 SLICES = ('table', 'log', 'tape')
 for slice in SLICES:

@@ -1,4 +1,4 @@
--- The theorems of the calls: which states are held, which call is refused, how the calls wind, and the third demand.
+-- The theorems of the calls: which states are held, which call is refused, how the calls wind, what is on top, and the third demand.
 pub mod Order
 pub mod Held
 pub mod Unrefused
@@ -7,5 +7,6 @@ pub mod Winds
 pub mod Peaks
 pub mod Runs
 pub mod Answers
+pub mod Top
 pub mod Third
 pub mod RoundTrip

@@ -4,6 +4,7 @@ use crate::words::nth_part;
 use crate::words::number_at;
 use crate::words::row_in;
 use crate::words::same_bytes;
+use session::Which;
 
 // What a command is about.
 pub(crate) enum Topic {
@@ -14,6 +15,7 @@ pub(crate) enum Topic {
     Read,
     Accept,
     Made,
+    Top,
 }
 
 // What concerns no slice.
@@ -67,7 +69,8 @@ pub(crate) fn row_of(line: &[u8]) -> usize {
         b"text 0 + n 1 . down 4 . up 4 . read 0 + accept 0 + \
           open 0 + forward 1 + back 1 + go-to 1 + walk 1 + walk-back 1 + \
           table 2 . set-table 2 . lend-table 1 . tower 1 . \
-          log 2 . set-log 2 . lend-log 1 . tape 2 . set-tape 2 . lend-tape 1 .",
+          log 2 . set-log 2 . lend-log 1 . tape 2 . set-tape 2 . lend-tape 1 . \
+          log-top 0 + tape-top 0 +",
     )
 }
 
@@ -79,6 +82,7 @@ pub(crate) fn topic_of(row: usize) -> Topic {
         12..=15 => Topic::Table,
         16..=18 => Topic::Log,
         19..=21 => Topic::Tape,
+        22 | 23 => Topic::Top,
         _ => Topic::Plain,
     }
 }
@@ -105,6 +109,11 @@ pub(crate) fn call_of(row: usize) -> SessionCall {
 
 pub(crate) fn is_open(row: usize) -> bool {
     row == 6
+}
+
+// Of log and tape, the one whose top entry is asked for.
+pub(crate) fn which_of(row: usize) -> Which {
+    if row == 22 { Which::Log } else { Which::Tape }
 }
 
 // Whether the states of the call are compared: on the way back.

@@ -23,6 +23,7 @@ use desk::with_text;
 use lent::changed;
 use lent::compose;
 use moves::made;
+use moves::top_made;
 use session::Dir;
 use session::Session;
 use show::show;
@@ -186,6 +187,24 @@ fn made_shown(
     e
 }
 
+// Asks for a top entry on what is lent, and shows the answer and both slices; the desk stays as it was.
+fn top_shown<'a>(
+    line: &[u8],
+    row: usize,
+    d: Desk,
+    table: &[u32],
+    log: &'a [u32],
+    tape: &'a [u32],
+) -> Desk {
+    let k = least(d.table, table.len());
+    let l = least(d.log, log.len());
+    let t = least(d.tape, tape.len());
+    show_name(line, 1);
+    top_made(row, d, &table[0..k], &log[0..l], &tape[0..t]);
+    show_slices(d, log, tape);
+    d
+}
+
 // Does what the line at an index says; the desk after it.
 fn obey(
     script: &[u8],
@@ -205,6 +224,7 @@ fn obey(
         Topic::Read => read_shown(script, line, d, table),
         Topic::Accept => accept_shown(line, d, &table[..]),
         Topic::Made => made_shown(line, row, d, &table[..], log, tape),
+        Topic::Top => top_shown(line, row, d, &table[..], &log[..], &tape[..]),
     }
 }
 

@@ -3,11 +3,13 @@ use crate::command::SessionCall;
 use crate::command::call_of;
 use crate::command::is_compared;
 use crate::command::is_walk;
+use crate::command::which_of;
 use crate::desk::Desk;
 use crate::desk::same_session;
 use crate::desk::session_on;
 use crate::desk::with_outcome;
 use crate::show::show_made;
+use crate::show::show_top;
 use session::Opening;
 use session::Outcome;
 use session::Session;
@@ -16,6 +18,7 @@ use session::back;
 use session::forward;
 use session::go_to;
 use session::open;
+use session::top;
 
 // Open's answer as that of a call that makes no step; its refusal, 0 where there is none, stands for the stop.
 fn as_outcome(o: Opening) -> Outcome {
@@ -131,4 +134,20 @@ pub(crate) fn made(
     }
     show_made(row, d, agreed);
     d
+}
+
+// Asks for the top entry of log or tape, and shows the answer. Its part may be of either: one lifetime for both.
+pub(crate) fn top_made<'a>(row: usize, d: Desk, table: &[u32], log: &'a [u32], tape: &'a [u32]) {
+    // Neither 0 nor a refusal, so that a number left unwritten shows.
+    let mut refusal: u32 = 99;
+    let part = top(
+        table,
+        d.n,
+        session_on(d),
+        log,
+        tape,
+        which_of(row),
+        &mut refusal,
+    );
+    show_top(refusal, part);
 }

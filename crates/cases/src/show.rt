@@ -138,3 +138,10 @@ pub(crate) fn show_made(row: usize, d: Desk, agreed: u32) {
         show_number(b" agreed ", agreed);
     }
 }
+
+// A refusal, 0 for none, and the words of a part.
+pub(crate) fn show_top(refusal: u32, part: &[u32]) {
+    show_number(b" refusal ", refusal);
+    show(b" part");
+    show_words(part);
+}

@@ -9,6 +9,7 @@ pub mod Arrivals
 pub mod BulletRules
 pub mod MovingRules
 pub mod TopWord
+pub mod Places
 pub mod Chosen
 pub mod Facing
 pub mod Passes

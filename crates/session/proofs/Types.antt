@@ -4,12 +4,15 @@ use mathlib.Core.List.{List}
 use Prim.Native.Nat.{ℕ}
 use Rattle.machine.specs.Machine
 use Rattle.calls.specs.Session
-use Rattle.session.specs.Types.{dirMeant, sessionMeant, stopMeant, openingMeant, outcomeMeant}
+use Rattle.calls.specs.Top
+use Rattle.session.specs.Types.{dirMeant, whichMeant, sessionMeant, stopMeant, openingMeant, outcomeMeant}
 use Rattle.session.specs.declared.Dir.{Dir}
 use Rattle.session.specs.declared.Dir.the-variants.{Down, Up}
 use Rattle.session.specs.declared.Session as Declared
 use Rattle.session.specs.declared.Stop.{Stop}
 use Rattle.session.specs.declared.Stop.the-variants.{Spent, Answer, Jam, Far, Start, LogFull, TapeFull, Refused}
+use Rattle.session.specs.declared.Which.{Which}
+use Rattle.session.specs.declared.Which.the-variants.{Log, Tape}
 use Rattle.session.specs.declared.Opening.{Opening}
 use Rattle.session.specs.declared.Outcome.{Outcome}
 
@@ -28,6 +31,18 @@ dir-back Up = refl
 
 pub dir-once : (d e : Dir) → dirMeant d ≡ dirMeant e → d ≡ e
 dir-once = from-back (λ d. dirMeant d) dirBack dir-back
+
+whichBack : Top.Which → Which
+whichBack Top.log = Log
+whichBack Top.tape = Tape
+
+which-back : (x : Which) → whichBack (whichMeant x) ≡ x
+unfolding whichBack
+which-back Log = refl
+which-back Tape = refl
+
+pub which-once : (x y : Which) → whichMeant x ≡ whichMeant y → x ≡ y
+which-once = from-back (λ x. whichMeant x) whichBack which-back
 
 stopBack : Session.Stop → Stop
 stopBack Session.spent = Spent

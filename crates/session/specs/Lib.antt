@@ -1,6 +1,7 @@
 pub mod Types
 pub mod Counting
 pub mod Mover
+pub mod Place
 pub mod Steps
 pub mod Rules
 pub mod Passes

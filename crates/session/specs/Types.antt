@@ -1,15 +1,18 @@
 -- The declared types as the definitions' own: this paper's name and values for each of their cases.
 use mathlib.Core.Option.{Option, none, some}
 use mathlib.Core.List.{List}
-use Prim.Native.Nat.{ℕ}
+use Prim.Native.Nat.{ℕ, _+_, _*_}
 use Rattle.machine.specs.Machine
 use Rattle.calls.specs.Session
 use Rattle.calls.specs.Stops
+use Rattle.calls.specs.Top
 use Rattle.session.specs.declared.Dir.{Dir}
 use Rattle.session.specs.declared.Dir.the-variants.{Down, Up}
 use Rattle.session.specs.declared.Session as Declared
 use Rattle.session.specs.declared.Stop.{Stop}
 use Rattle.session.specs.declared.Stop.the-variants.{Spent, Answer, Jam, Far, Start, LogFull, TapeFull, Refused}
+use Rattle.session.specs.declared.Which.{Which}
+use Rattle.session.specs.declared.Which.the-variants.{Log, Tape}
 use Rattle.session.specs.declared.Opening.{Opening}
 use Rattle.session.specs.declared.Outcome.{Outcome}
 use Rattle.session.specs.declared.winding.Way.{Way}
@@ -18,6 +21,10 @@ use Rattle.session.specs.declared.winding.Way.the-variants.{Forward, Bac
 abbrev pub dirMeant : Dir → Machine.Dir
 dirMeant Down = Machine.down
 dirMeant Up = Machine.up
+
+abbrev pub whichMeant : Which → Top.Which
+whichMeant Log = Top.log
+whichMeant Tape = Top.tape
 
 abbrev pub wayMeant : Way → Stops.Way
 wayMeant Forward = Stops.forward
@@ -64,3 +71,12 @@ lent w n s ls ts = record { table = w; n = n; session = sessionMeant s; log = ls
 abbrev pub numberMeant : Option ℕ → ℕ
 numberMeant none = 0
 numberMeant (some k) = k
+
+-- the one of two that the call is told
+abbrev pub asTold : {A : Type 0} → Which → A → A → A
+asTold Log l t = l
+asTold Tape l t = t
+
+-- Where the word at index i lies in memory, of a slice that begins there. (A pointer is a block of memory and a byte in it; a word has four bytes.)
+abbrev pub wordPtr : ℕ × ℕ → ℕ → ℕ × ℕ
+wordPtr p i = (p .0, i * 4 + p .1)

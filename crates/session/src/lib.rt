@@ -1,18 +1,21 @@
-// Sessions on a term: open, forward, back and go-to (document 01, "A session and its calls").
+// Sessions on a term: open, forward, back and go-to (document 01, "A session and its calls"), and the top entry of log or tape (document 02, change 1).
 ghost use mathlib.Core.Path.{_≡_};
 ghost use lib.ListN.{length, replicate};
 ghost use Rattle.calls.specs.Calls.{openOf, windOf, forwardOf, backOf, goToOf};
-ghost use Rattle.session.specs.Types.{openingMeant, outcomeMeant, wayMeant, lent};
+ghost use Rattle.calls.specs.Top.{topOf, seen};
+ghost use Rattle.session.specs.Types.{openingMeant, outcomeMeant, wayMeant, whichMeant, lent, asTold, wordPtr};
 ghost use Rattle.session.specs.Passes.{Refuses};
 
 mod check;
 mod choice;
 mod extent;
 mod mover;
+mod part;
 mod rules;
 mod winding;
 
 use check::call_number;
+use part::top_place;
 use winding::Way;
 use winding::wind;
 
@@ -41,6 +44,12 @@ pub enum Stop {
     LogFull,
     TapeFull,
     Refused(u32),
+}
+
+// One of the two lists that the token carries.
+pub enum Which {
+    Log,
+    Tape,
 }
 
 // What open answers. A refusal of 0 is none.
@@ -179,5 +188,32 @@ pub fn go_to(
         forward(table, n, session, log, tape, position - here)
     } else {
         back(table, n, session, log, tape, here - position)
+    }
+}
+
+// The top entry of log or tape, or the bullet on top of the tape, as that part of the lent slice itself, its top word last; empty where it is refused. The number,
+// 0 for none, goes out through `refusal`, and nothing else is written. Of equal words elsewhere in memory the clause `shown` would not tell; `there` does.
+pub fn top<'a>(
+    table: &[u32],
+    n: u32,
+    session: Session,
+    log: &'a [u32],
+    tape: &'a [u32],
+    which: Which,
+    refusal: &mut u32,
+) -> &'a [u32]
+    ensures shown { λ r. ⌜ (now r, now (refusal .exit))
+        ≡ seen (topOf (whichMeant which) (lent (now (table .entry)) n session (now (log .entry)) (now (tape .entry)))) ⌝ }
+    ensures there { λ r. ⌜ r .ptr
+        ≡ wordPtr (asTold which (log .entry .ptr) (tape .entry .ptr))
+        (topOf (whichMeant which) (lent (now (table .entry)) n session (now (log .entry)) (now (tape .entry))) .offset) ⌝ }
+{
+    let place = top_place(table, n, session, log, tape, which);
+    *refusal = place.refusal;
+    let start = place.offset;
+    let end = start + place.size;
+    match which {
+        Which::Log => &log[start..end],
+        Which::Tape => &tape[start..end],
     }
 }
