@@ -24,6 +24,7 @@ static void *reads(void *unused) { n = yildreuz_read(text, text_len, table, TABL
 static void *opens(void *unused) { session = yildreuz_open(table, TABLE, n, ALL_SLICES).session; return unused; }
 static void *forward(void *unused) { session = yildreuz_forward(table, TABLE, n, session, ALL_SLICES, 20000).session; return unused; }
 static void *back(void *unused) { session = yildreuz_back(table, TABLE, n, session, ALL_SLICES, 10000).session; return unused; }
+static void *tops(void *unused) { uint32_t refusal; yildreuz_top(table, TABLE, n, session, ALL_SLICES, YILDREUZ_TAPE, &refusal); return unused; }
 static void *goes_to(void *unused) { session = yildreuz_go_to(table, TABLE, n, session, ALL_SLICES, 0).session; return unused; }
 
 /* Bytes that a thread touches of a stack painted before. */
@@ -79,6 +80,7 @@ static void measure_calls(const char *on)
     measure("open", on, opens, YILDREUZ_CALL_STACK);
     measure("forward", on, forward, YILDREUZ_CALL_STACK);
     measure("back", on, back, YILDREUZ_CALL_STACK);
+    measure("top", on, tops, YILDREUZ_CALL_STACK);
     measure("go_to", on, goes_to, YILDREUZ_CALL_STACK);
 }
 

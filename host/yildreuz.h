@@ -1,5 +1,6 @@
-/* Yildreuz for C and C++: reads a closed lambda-term, opens a session on it, and moves a token over the term, forward,
-   back or to a position. Link libyildreuz.a (x86-64 Linux), which needs memset of the C library and nothing else.
+/* Yildreuz for C and C++: reads a closed lambda-term, opens a session on it, moves a token over the term, forward, back
+   or to a position, and points at the newest entry that the token carries. Link libyildreuz.a (x86-64 Linux), which needs
+   memset of the C library and nothing else.
 
    Who owns what. Every byte and word is the caller's. A call borrows text, table, log and tape while it runs: it keeps
    no pointer, allocates nothing, and has no state of its own, so calls that write different slices may run at the same
@@ -11,17 +12,19 @@
    - pointer and length agree: behind the pointer lie at least as many bytes or words as the length after it says, to be
      read, and to be written where the pointer is not to const;
    - every pointer is aligned for its type, and none is NULL, even where its length is 0;
-   - a slice that a call writes overlaps no other slice of that call.
+   - a slice or word that a call writes overlaps nothing else that the call is lent.
 
-   What a refusal leaves. No lent byte or word differs, and a session given comes back as it was, number for number. Every
-   other number of the answer is 0, beside the refusal's own:
+   What a refusal leaves. No lent byte or word differs but the one through which top tells the number, and a session given
+   comes back as it was, number for number. Every other number of the answer is 0, beside the refusal's own:
      1  the text has more than 3,000 bytes            6  the table has fewer than 5 words for each node of the term
      2  it has a byte that no term has                7  n is 0 or over 3,000, the table has fewer than 5 x n words,
      3  it has a name over 8 bytes, or one that          or no closed term has it
         starts with a digit                           8  log or tape has more than 16,384 words
      4  it is not a term                              9  the session, log and tape hold no state of the machine, or
      5  it has a name without a binder                   the direction is neither 0 nor 1
-   The numbers are tested in their order: 1 to 6 by read, 7 and 8 by open, 7 to 9 by the other three.
+                                                     10  the chosen list is empty, or none is chosen
+   The numbers are tested in their order: 1 to 6 by read, 7 and 8 by open, 7 to 9 by forward, back and go_to, and 7 to 10
+   by top.
 
    What holds after every list of calls. Open a session on a table that was read, and hand each call of forward, back and
    go_to the session, log and tape that the one before left: then these are, word for word, those of the machine after as
@@ -53,6 +56,9 @@ enum {
 
 /* Which way the token goes. */
 enum { YILDREUZ_DOWN = 0, YILDREUZ_UP = 1 };
+
+/* The lists that the token carries. */
+enum { YILDREUZ_LOG = 0, YILDREUZ_TAPE = 1 };
 
 /* Why forward, back or go_to ended. */
 enum {
@@ -97,6 +103,12 @@ typedef struct yildreuz_outcome {
     uint32_t peak;            /* the most words in log and tape together over the states stood in; 0 in a refusal */
 } yildreuz_outcome;
 
+/* What top answers: where the part lies in the slice that the caller lent for the chosen list. */
+typedef struct yildreuz_part {
+    uint32_t offset; /* the index of its first word; 0 in a refusal */
+    uint32_t len;    /* how many words it has, at least 1; 0 in a refusal */
+} yildreuz_part;
+
 /* Reads a closed term.
    Borrows the text to read it, and the table to write its first 5 x n words; the words after them stay.
    Refuses with 1 to 6, and then every word of the table stays.
@@ -130,6 +142,17 @@ yildreuz_outcome yildreuz_back(const uint32_t *table, size_t table_len, uint32_t
    Borrows, refuses, needs and leaves to the caller what yildreuz_forward does. */
 yildreuz_outcome yildreuz_go_to(const uint32_t *table, size_t table_len, uint32_t n, yildreuz_session session,
                                 uint32_t *log, size_t log_len, uint32_t *tape, size_t tape_len, uint32_t position);
+
+/* Points at the newest entry of the log (which is YILDREUZ_LOG) or of the tape (YILDREUZ_TAPE): the words log[offset] to
+   log[offset + len - 1], or those of tape, are that entry, its variable last and the entries inside it below. A bullet on
+   top of the tape is its one word, 0. Nothing is copied: the words stand where they stood, until the next call that winds.
+   Borrows table, log and tape to read them, and *refusal to write the number, 0 for none, in every call.
+   Refuses with 7 to 10. A number other than 0 and 1 chooses no list.
+   Needs YILDREUZ_CALL_STACK bytes of stack.
+   The caller promises: refusal points at a word in none of the three slices; and what the top says of pointers. */
+yildreuz_part yildreuz_top(const uint32_t *table, size_t table_len, uint32_t n, yildreuz_session session,
+                           const uint32_t *log, size_t log_len, const uint32_t *tape, size_t tape_len, uint32_t which,
+                           uint32_t *refusal);
 
 #ifdef __cplusplus
 }

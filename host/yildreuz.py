@@ -1,4 +1,4 @@
-"""Yildreuz for Python: the five calls of yildreuz.h over a shared library, with Python's standard library alone. The library is made of the archive:
+"""Yildreuz for Python: the calls of yildreuz.h over a shared library, with Python's standard library alone. The library is made of the archive:
 
     cc -shared -o libyildreuz.so -Wl,--whole-archive libyildreuz.a -Wl,--no-whole-archive
 
@@ -11,6 +11,8 @@ and used so:
     n, refusal = lib.read(rb'(\\x.x x)(\\y.y)', table)
     session, refusal = lib.open(table, n, log, tape)
     out = lib.forward(table, n, session, log, tape, 100)    # out.steps 12, out.stop ANSWER, out.value 6
+    part, refusal = lib.top(table, n, out.session, log, tape, yildreuz.LOG)
+    newest = memoryview(log)[part.offset:part.offset + part.len]    # the newest log entry, no word of it copied: 7, 5
     home = lib.back(table, n, out.session, log, tape, out.steps)
 
 Table, log and tape are the caller's: `words(k)`, or any writable buffer of 32-bit words such as an array('I') or a memoryview of a part of one. A call
@@ -24,6 +26,7 @@ from typing import NamedTuple
 
 MOST_BYTES, MOST_NODES, LONGEST = 3000, 3000, 16384
 DOWN, UP = 0, 1
+LOG, TAPE = 0, 1
 SPENT, ANSWER, JAM, FAR, START, LOG_FULL, TAPE_FULL, REFUSED = range(8)
 STOP_NAMES = ('spent', 'answer', 'jam', 'far', 'start', 'log full', 'tape full', 'refused')
 
@@ -57,6 +60,16 @@ class Outcome(NamedTuple):
     peak: int
 
 
+class Part(NamedTuple):
+    offset: int
+    len: int
+
+
+class Top(NamedTuple):
+    part: Part
+    refusal: int
+
+
 def words(count):
     """A slice of so many words, all 0."""
     return array('I', bytes(4 * count))
@@ -73,6 +86,7 @@ _Reading = _struct(Reading)
 _Session = _struct(Session)
 _Opening = _struct(Opening, session=_Session)
 _Outcome = _struct(Outcome, session=_Session)
+_Part = _struct(Part)
 
 
 def _told(shape, struct):
@@ -129,6 +143,7 @@ class Library:
         self._forward = self._call(lib.yildreuz_forward, _Outcome, winding)
         self._back = self._call(lib.yildreuz_back, _Outcome, winding)
         self._go_to = self._call(lib.yildreuz_go_to, _Outcome, winding)
+        self._top = self._call(lib.yildreuz_top, _Part, winding + [_WORDS])
 
     @staticmethod
     def _call(function, restype, argtypes):
@@ -156,6 +171,13 @@ class Library:
     def go_to(self, table, n, session, log, tape, position):
         """Goes forward or back to a position."""
         return self._wind(self._go_to, table, n, session, log, tape, position)
+
+    def top(self, table, n, session, log, tape, which):
+        """Points at the newest entry of LOG or TAPE: the part of that buffer in which it lies, and a refusal's number."""
+        table, log, tape = _lent(table, log, tape)
+        refusal = ctypes.c_uint32()
+        part = self._top(*table, _word(n), _Session(*map(_word, session)), *log, *tape, _word(which), ctypes.byref(refusal))
+        return Top(_told(Part, part), refusal.value)
 
     @staticmethod
     def _wind(call, table, n, session, log, tape, number):

@@ -1,5 +1,5 @@
 #!/usr/bin/env python3
-"""Compares random calls through host/yildreuz.py with reference.py's reading of document 01 (tools/host runs it).
+"""Compares random calls through host/yildreuz.py with reference.py's reading of documents 01 and 02 (tools/host runs it).
 
   tools/random_calls.py LIBRARY [CALLS [SEED]]
 
@@ -28,6 +28,7 @@ DUE = {
     'open': {'opened', 'refused 7', 'refused 8'},
     'forward': {'spent', 'answer', 'jam', 'far', 'log full', 'tape full', 'refused 7', 'refused 8', 'refused 9', 'no direction'},
     'back': {'spent', 'start', 'jam', 'log full', 'tape full', 'refused 7', 'refused 8', 'refused 9', 'no direction'},
+    'top': {'log entry', 'tape entry', 'nested', 'bullet', 'no list', 'no direction'} | {'refused %d' % k for k in range(7, 11)},
 }
 DUE['go_to'] = (DUE['forward'] | DUE['back']) - {'start', 'far'}  # its count is used up where either could come
 
@@ -144,6 +145,15 @@ def expected(name, w, n, s, log, tape, number):
     return yildreuz.Outcome(numbers_of(se), steps, CODES[stop], 0, 0, peak)
 
 
+def expected_top(w, n, s, log, tape, which):
+    """The answer of top, and the words that must lie in the part."""
+    se, listed = s if s.direction <= 1 else s._replace(node=0, direction=0), 'log' if which == 0 else 'tape'
+    offset, part, refusal = reference.top(w, n, session_of(se), log, tape, listed)
+    if which > 1 and refusal in (0, 10):  # 10, after 7 to 9
+        offset, part, refusal = 0, [], 10
+    return yildreuz.Top(yildreuz.Part(offset, len(part)), refusal), part
+
+
 # ---- the comparison
 
 class Comparison:
@@ -196,7 +206,9 @@ class Comparison:
         return yildreuz.GREATEST - self.rng.randint(0, 2) if ends_near and self.rng.random() < 0.2 else away
 
     def wind(self, table, n, s, log, tape):
-        """One call; its outcome."""
+        """One call, at times after a look at what is on top; its outcome."""
+        if self.rng.random() < 0.3:
+            self.top(table, n, s, log, tape)
         name = self.rng.choice(['forward', 'forward', 'back', 'go_to'])
         number = self.number(name, s.position)
         w, want_log, want_tape = table.now(), log.now(), tape.now()
@@ -207,6 +219,21 @@ class Comparison:
         what = yildreuz.STOP_NAMES[got.stop]
         self.note(name, 'no direction' if s.direction > 1 and got.value == 9 else 'refused %d' % got.value if what == 'refused' else what)
         return got
+
+    def top(self, table, n, s, log, tape):
+        """One look at what is on top; no lent word may differ."""
+        which = self.rng.choice([0, 0, 0, 1, 1, 1, 2, self.rng.getrandbits(32)])
+        w, words = table.now(), [log.now(), tape.now()]
+        got = self.lib.top(table.part, n, s, log.part, tape.part, which)
+        want, part = expected_top(w, n, s, *words, which)
+        self.same((got, table.now(), [log.now(), tape.now()]), (want, w, words), ('top', w, n, s, *words, which))
+        if which <= 1:
+            self.same(words[which][got.part.offset:got.part.offset + got.part.len], part, ('the part', w, n, s, *words, which))
+        if got.refusal:
+            what = 'no direction' if s.direction > 1 and got.refusal == 9 else 'no list' if which > 1 and got.refusal == 10 else 'refused %d' % got.refusal
+        else:
+            what = 'bullet' if part == [0] else 'nested' if len(part) > 1 else ('log entry', 'tape entry')[which]
+        self.note('top', what)
 
     def walk(self):
         """A term, a session and some calls on it, damaged or not. What a damaged session or slice leads to is at times gone on with."""
@@ -265,6 +292,8 @@ def refuses_misuse(lib):
         (OverflowError, lambda: lib.open(table, -1, log, tape)),
         (OverflowError, lambda: lib.back(table, n, start, log, tape, yildreuz.GREATEST + 1)),
         (OverflowError, lambda: lib.go_to(table, n, start._replace(node=yildreuz.GREATEST + 2), log, tape, 0)),
+        (ValueError, lambda: lib.top(table, n, start, log, memoryview(log)[1:], yildreuz.LOG)),
+        (OverflowError, lambda: lib.top(table, n, start, log, tape, -1)),
     ]
     before = [list(x) for x in (table, log, tape, shared)]
     for number, (error, misuse) in enumerate(misuses):

@@ -1,4 +1,4 @@
--- Nothing is lost in numbers: no two directions, sessions, stops or answers are told alike.
+-- Nothing is lost in numbers: no two directions, sessions, stops, lists or answers are told alike.
 use mathlib.Core.Path.{_≡_, refl, sym, ap, _∙_}
 use mathlib.Core.Option.{Option, none, some, Option·some-injective, Option·none-ne-some}
 use mathlib.Core.List.{List}
@@ -7,8 +7,9 @@ use native.Mathlib.Omega.{arith}
 use Rattle.text.specs.Reading.{Read}
 use Rattle.machine.specs.Machine.{Dir, down, up}
 use Rattle.calls.specs.Session.{Session, Stop, spent, jam, far, start, logFull, tapeFull, answer, refused, Opening, Outcome, Given}
+use Rattle.calls.specs.Top.{Which, log, tape}
 use Rattle.face.specs.declared.HostSession.{HostSession}
-use Rattle.face.specs.Numbers.{dirNumber, dirIn, sessionNumbers, sessionIn, stopCode, stopValue}
+use Rattle.face.specs.Numbers.{dirNumber, dirIn, sessionNumbers, sessionIn, stopCode, stopValue, whichNumber, whichIn}
 use Rattle.face.specs.Told.{readTold, openTold, outcomeTold, called}
 
 -- What is told and read again is told apart.
@@ -79,6 +80,20 @@ stop-told (refused k) = refl
 
 pub codes-injective : (x y : Stop) → stopCode x ≡ stopCode y → stopValue x ≡ stopValue y → x ≡ y
 codes-injective x y h k = sym (stop-told x) ∙ (λ i. stopIn (h i) (k i)) ∙ stop-told y
+
+-- Lists.
+
+pub list-told : (which : Which) → whichIn (whichNumber which) ≡ some which
+list-told log = refl
+list-told tape = refl
+
+pub lists-injective : (x y : Which) → whichNumber x ≡ whichNumber y → x ≡ y
+lists-injective = told-apart (λ x. whichNumber x) whichIn list-told
+
+pub no-list : (k : ℕ) → 1 < k → whichIn k ≡ none
+no-list zero h = absurd (omega (arith, h))
+no-list (suc zero) h = absurd (omega (arith, h))
+no-list (suc (suc k)) h = refl
 
 -- Answers, with the slices after the call.
 

@@ -1,9 +1,10 @@
--- Directions, sessions and stops in numbers, as a host in another language holds them (host/yildreuz.h).
+-- Directions, sessions, stops and lists in numbers, as a host in another language holds them (host/yildreuz.h).
 use mathlib.Core.Option.{Option, none, some}
 use Prim.Native.Nat.{ℕ, zero, suc}
 use Rattle.term.specs.Choice.{_>>=_}
 use Rattle.machine.specs.Machine.{Dir, down, up}
 use Rattle.calls.specs.Session.{Session, Stop, spent, jam, far, start, logFull, tapeFull, answer, refused}
+use Rattle.calls.specs.Top.{Which, log, tape}
 use Rattle.face.specs.declared.HostSession.{HostSession}
 
 -- A direction is 0 down, 1 up,
@@ -54,3 +55,14 @@ stopValue start = 0
 stopValue logFull = 0
 stopValue tapeFull = 0
 stopValue (refused k) = k
+
+-- A list is 0 the log, 1 the tape,
+abbrev pub whichNumber : Which → ℕ
+whichNumber log = 0
+whichNumber tape = 1
+
+-- and a greater number names none.
+abbrev pub whichIn : ℕ → Option Which
+whichIn zero = some log
+whichIn (suc zero) = some tape
+whichIn (suc (suc k)) = none

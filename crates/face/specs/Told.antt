@@ -5,12 +5,14 @@ use Prim.Native.Nat.{ℕ}
 use Rattle.term.specs.Choice.{ifSome}
 use Rattle.text.specs.Reading.{Read}
 use Rattle.calls.specs.Session.{Session, Outcome, Opening, Given}
-use Rattle.calls.specs.Calls.{lentNumber}
+use Rattle.calls.specs.Calls.{lentNumber, callNumber}
+use Rattle.calls.specs.Top.{Which, Shown, notShown, topOf}
 use Rattle.face.specs.declared.HostReading.{HostReading}
 use Rattle.face.specs.declared.HostSession.{HostSession}
 use Rattle.face.specs.declared.HostOpening.{HostOpening}
 use Rattle.face.specs.declared.HostOutcome.{HostOutcome}
-use Rattle.face.specs.Numbers.{sessionNumbers, sessionIn, stopCode, stopValue}
+use Rattle.face.specs.declared.HostPart.{HostPart}
+use Rattle.face.specs.Numbers.{sessionNumbers, sessionIn, stopCode, stopValue, whichIn}
 
 abbrev pub readTold : Read → HostReading × List ℕ
 readTold r = (record { n = r .n; refusal = r .refusal }, r .table)
@@ -45,3 +47,23 @@ calledOn none call w n s ls ts = refusedTold (noSessionNumber w n ls ts) s ls ts
 
 unfoldable pub called : (Given → Outcome) → List ℕ → ℕ → HostSession → List ℕ → List ℕ → HostOutcome × List ℕ × List ℕ
 called call w n s ls ts = calledOn (sessionIn s) call w n s ls ts
+
+-- Of what top shows a host gets the place in its own slice; the number goes out through the pointer.
+abbrev pub topTold : Shown → HostPart × ℕ
+topTold a = (record { offset = a .offset; len = a .size }, a .refusal)
+
+-- Where no list is named, 10 comes after 7 to 9.
+abbrev pub noListNumber : Given → ℕ
+noListNumber g = ifSome (callNumber g) (λ k. k) (λ _. 10)
+
+abbrev pub topOfList : Option Which → Given → Shown
+topOfList (some which) g = topOf which g
+topOfList none g = notShown (noListNumber g)
+
+-- The top of the list that a host's number names, on the session that its numbers stand for.
+abbrev pub topOn : Option Session → Option Which → List ℕ → ℕ → List ℕ → List ℕ → Shown
+topOn (some se) which w n ls ts = topOfList which (record { table = w; n = n; session = se; log = ls; tape = ts })
+topOn none which w n ls ts = notShown (noSessionNumber w n ls ts)
+
+unfoldable pub topCalled : List ℕ → ℕ → HostSession → List ℕ → List ℕ → ℕ → HostPart × ℕ
+topCalled w n s ls ts which = topTold (topOn (sessionIn s) (whichIn which) w n ls ts)

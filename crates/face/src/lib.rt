@@ -35,3 +35,10 @@ pub struct HostOutcome {
     pub value2: u32,
     pub peak: u32,
 }
+
+// What top answers: where the part lies in the lent slice, the index of its first word and how many words it has. Both are 0 in a refusal.
+#[repr(C)]
+pub struct HostPart {
+    pub offset: u32,
+    pub len: u32,
+}

@@ -1,2 +1,3 @@
--- The law behind the winding calls, beside the functions' own proofs.
+-- The laws behind the winding calls and behind top, beside the functions' own proofs.
 pub mod Given
+pub mod TopTold

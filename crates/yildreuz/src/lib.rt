@@ -1,21 +1,28 @@
-// The reader and the four calls for a host in another language: host/yildreuz.h has the same structs and functions in C.
+// The reader and the calls on a session for a host in another language: host/yildreuz.h has the same structs and functions in C.
 ghost use mathlib.Core.Path.{_≡_};
 ghost use Rattle.text.specs.Reading.{readOf};
 ghost use Rattle.calls.specs.Calls.{openOf, forwardOf, backOf, goToOf};
 ghost use Rattle.calls.specs.Demand.{outcomeOf};
 ghost use Rattle.session.specs.Types.{outcomeMeant, lent};
-ghost use Rattle.face.specs.Told.{readTold, openTold, called};
+ghost use Rattle.face.specs.Told.{readTold, openTold, called, topCalled};
 ghost use Rattle.yildreuz.specs.Given.{moveMeant};
 
 mod numbers;
+mod parts;
 
 use face::HostOpening;
 use face::HostOutcome;
+use face::HostPart;
 use face::HostReading;
 use face::HostSession;
 use numbers::given_back;
 use numbers::made_with;
 use numbers::session_numbers;
+use parts::list_end;
+use parts::list_named;
+use parts::number_told;
+use parts::part_told;
+use parts::top_size;
 use session::Outcome;
 use session::Session;
 
@@ -139,4 +146,27 @@ pub extern "C" fn yildreuz_go_to(
         ≡ called (λ g. goToOf g position) (now (table .entry)) n session (now (log .entry)) (now (tape .entry)) ⌝ }
 {
     call(table, n, session, log, tape, Move::GoTo, position)
+}
+
+// Where the top entry lies in the lent slice. The number goes out through `refusal`.
+#[no_mangle]
+pub extern "C" fn yildreuz_top<'a>(
+    table: &[u32],
+    n: u32,
+    session: HostSession,
+    log: &'a [u32],
+    tape: &'a [u32],
+    which: u32,
+    refusal: &mut u32,
+) -> HostPart
+    ensures { λ r. ⌜ (r, now (refusal .exit))
+        ≡ topCalled (now (table .entry)) n session (now (log .entry)) (now (tape .entry)) which ⌝ }
+{
+    let s = made_with(session);
+    let list = list_named(which);
+    let mut number: u32 = 0;
+    let size = top_size(table, n, s, log, tape, list, &mut number);
+    let told = number_told(which, number);
+    *refusal = told;
+    part_told(told, list_end(s, list), size)
 }
