@@ -101,12 +101,12 @@ module _ (w : List ℕ) (n : ℕ) (s : HostSession) (ls ts : List ℕ) (which : 
       by-direction zero = sym (on-session (madeWith (toward s zero)))
       by-direction (suc zero) = sym (on-session (madeWith (toward s (suc zero))))
       by-direction (suc (suc k)) =
-          let nowhere-0 : madeWith (toward s (suc (suc k))) .node ≡ 0 = rw (lt-ltb 1 (suc (suc k)) (omega arith)) in
-          let refused = nowhere (given (madeWith (toward s (suc (suc k))))) nowhere-0 in
-          let from-seven = call-names (given (madeWith (toward s (suc (suc k))))) (noSessionNumber w n ls ts) refused .0 in
+          let se = madeWith (toward s (suc (suc k))) in
+          let refused = nowhere (given se) (rw (lt-ltb 1 (suc (suc k)) (omega arith))) in
+          let from-seven = call-names (given se) (noSessionNumber w n ls ts) refused .0 in
           sym
-          (ap (λ a. toldOf which a (lengthGiven (listNamed which) (madeWith (toward s (suc (suc k)))))) (top-refused (listNamed which) (given (madeWith (toward s (suc (suc k))))) (noSessionNumber w n ls ts) refused)
-          ∙ refused-told which (noSessionNumber w n ls ts) (lengthGiven (listNamed which) (madeWith (toward s (suc (suc k))))) (λ z. omega arith))
+          (ap (λ a. toldOf which a (lengthGiven (listNamed which) se)) (top-refused (listNamed which) (given se) (noSessionNumber w n ls ts) refused)
+          ∙ refused-told which (noSessionNumber w n ls ts) (lengthGiven (listNamed which) se) (λ z. omega arith))
 
   -- as the code goes about it
   module _ (se : Session) (list : Which) {size number : ℕ} (shown-is : (size, number) ≡ sizeShown (topOf list (given se))) where
