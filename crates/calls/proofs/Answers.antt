@@ -155,7 +155,7 @@ module _ (r : Room) (m : Moment) (fits : Fits r (m .state)) where
   }
 
   module _ (w : List ℕ) (n : ℕ) (A : Accepted w n) (good : Good (tableIn w n) (m .state)) (short-log : r .log ≤ longest) (short-tape : r .tape ≤ longest) where
-    laid-enters : Enters (givenTo w n (laidDown r m)) (m .state)
+    pub laid-enters : Enters (givenTo w n (laidDown r m)) (m .state)
     laid-enters = record {
       accepted-table = A;
       short-log = rw laid-log-length short-log;

@@ -5,8 +5,7 @@ use mathlib.Core.Option.{Option, none, some}
 use mathlib.Core.List.{List, [], _∷_, _++_, reverse, reverse-reverse, append-nil}
 use Prim.Native.Nat.{ℕ, _+_, _-_, _*_, _≤_}
 use native.Mathlib.Omega.{arith}
-use lib.ListN.{length, take, drop, replicate, length-append, length-reverse, length-replicate}
-use lib.Seq.{take-at, drop-at}
+use lib.ListN.{length, take, drop, length-append, length-reverse, length-replicate}
 use Rattle.term.specs.Choice.{_⇒_, first, isNone, ifSome}
 use Rattle.term.specs.Table.{Table, tableIn}
 use Rattle.term.specs.Accepted.{Accepted}
@@ -16,24 +15,22 @@ use Rattle.machine.specs.Entries.{entry, Log, ε, _▸_, Item, bullet, held, Ta
 use Rattle.machine.specs.Machine.{State, startState}
 use Rattle.machine.specs.Good.{TapeIn, Good}
 use Rattle.machine.specs.Slice.{slice, readTape}
-use Rattle.machine.proofs.Load.{reverse-apart, tape-read}
+use Rattle.machine.proofs.Load.{words-above, tape-read}
 use Rattle.machine.proofs.After.{after-good}
 use Rattle.calls.specs.Session.{Given}
-use Rattle.calls.specs.Stops.{Room, logSize, tapeSize}
+use Rattle.calls.specs.Stops.{moment, Room}
 use Rattle.calls.specs.Calls.{longest, callTests, callNumber, Enters}
 use Rattle.calls.specs.Top.{Which, log, tape, Shown, shown, notShown, shows, shownGiven, topNumber, topBy, topOf, sliceGiven, lengthGiven, OnTop, IsEmpty, PointsAt}
 use Rattle.calls.specs.Demand.{Standing, givenTo, AsPlain}
 use Rattle.calls.proofs.Order.{first-of-both}
 use Rattle.calls.proofs.Unrefused.{call-names}
-use Rattle.calls.proofs.Answers.{state-given, enters-unrefused, entered}
+use Rattle.calls.proofs.Stops.{Fits}
+use Rattle.calls.proofs.Answers.{state-given, enters-unrefused, entered, laidDown, laid-enters}
 
 -- the words xs on top of ys, where they lie in the slice
 words-there : (room : ℕ) (xs ys : List ℕ) → take (length xs) (drop (length ys) (slice room (xs ++ ys))) ≡ reverse xs
 unfolding slice
-words-there room xs ys =
-    ap (λ q. take (length xs) (drop (length ys) q)) (reverse-apart xs ys _)
-    ∙ ap (take (length xs)) (drop-at (reverse ys) _ (length ys) (length-reverse ys))
-    ∙ take-at (reverse xs) _ (length xs) (length-reverse xs)
+words-there room xs ys = words-above xs ys _
 
 some-word : (x : Item) → length (itemWords x) ≡ 0 → ⊥
 some-word bullet e = omega arith
@@ -220,41 +217,25 @@ module _ (which : Which) (g : Given) where
       (λ p. let (s, x, at) = p in let fits = list-fits which g s (at .enters) in (omega (arith, at .ends, fits .0), omega (arith, at .ends, fits .0, fits .1)))
       top-answers
 
--- A list laid down in a slice fits there, and lies there as in any slice of that length.
-laid-long : (room : ℕ) (ws : List ℕ) → length (slice room ws) ≡ length ws + (room - length ws)
+-- Words that lie in a slice as long as its room fit there.
+laid-fits : (room : ℕ) (ws s : List ℕ) → s ≡ slice room ws → length s ≡ room → length ws ≤ room
 unfolding slice
-laid-long room ws = simp (length-append, length-reverse, length-replicate)
-
-laid-again : (room : ℕ) (ws s : List ℕ) → s ≡ slice room ws → (length ws ≤ length s) × (s ≡ slice (length s) ws)
-unfolding slice
-laid-again room ws s e =
-    let long : length s ≡ length ws + (room - length ws) = ap length e ∙ laid-long room ws in
-    let same : room - length ws ≡ length s - length ws = omega arith in
-    (omega arith, e ∙ ap (λ k. reverse ws ++ replicate k 0) same)
+laid-fits room ws s e long =
+    let parts : length (slice room ws) ≡ length ws + (room - length ws) = simp (length-append, length-reverse, length-replicate) in
+    omega (arith, sym (ap length e) ∙ long)
 
 -- Where what stands is the plain machine's after p steps, as it is after every list of the third demand, top shows what is on top of the plain machine's own list.
-pub plain-shown : (w u : List ℕ) (n : ℕ) → Accepted w n → take (5 * n) u ≡ take (5 * n) w → (r : Room) (p : ℕ) (st : Standing) (plain : AsPlain (tableIn w n) startState r p st)
-    → length (st .log) ≤ longest → length (st .tape) ≤ longest → (which : Which) → topOf which (givenTo u n st) ≡ topBy none (shows which (plain .state))
-plain-shown w u n A same r p st plain short-log short-tape which =
+pub plain-shown : (w u : List ℕ) (n : ℕ) → Accepted w n → take (5 * n) u ≡ take (5 * n) w → (r : Room) → r .log ≤ longest → r .tape ≤ longest
+    → (p : ℕ) (st : Standing) (plain : AsPlain (tableIn w n) startState r p st) → length (st .log) ≡ r .log → length (st .tape) ≡ r .tape
+    → (which : Which) → topOf which (givenTo u n st) ≡ topBy none (shows which (plain .state))
+plain-shown w u n A same r short-log short-tape p st plain log-long tape-long which =
     let s = plain .state in
-    let log-there = laid-again (r .log) (logWords (s .log)) (st .log) (plain .log-is) in
-    let tape-there = laid-again (r .tape) (tapeWords (s .tape)) (st .tape) (plain .tape-is) in
-    let log-length : st .session .logLength ≡ logSize s = ap (λ x. x .logLength) (plain .session-is) in
-    let tape-length : st .session .tapeLength ≡ tapeSize s = ap (λ x. x .tapeLength) (plain .session-is) in
-    top-of-state which (givenTo u n st) s
-    (record {
-      accepted-table = accepted-ignores w u n (sym same) A;
-      short-log = short-log;
-      short-tape = short-tape;
-      holds = record {
-        node-is = ap (λ x. x .node) (plain .session-is);
-        dir-is = ap (λ x. x .dir) (plain .session-is);
-        good = subst (λ T. Good T s) (sym (ignored u w n same)) (after-good w n A p s (plain .after-is));
-        log-fits = omega (arith, log-there .0);
-        tape-fits = omega (arith, tape-there .0);
-        log-length = log-length;
-        tape-length = tape-length;
-        log-lies = log-there .1;
-        tape-lies = tape-there .1;
-      };
-    })
+    let laid : laidDown r (moment s p) ≡ st = λ i. record { session = sym (plain .session-is) i; log = sym (plain .log-is) i; tape = sym (plain .tape-is) i } in
+    let fits : Fits r s = record {
+      log-fits = laid-fits (r .log) (logWords (s .log)) (st .log) (plain .log-is) log-long;
+      tape-fits = laid-fits (r .tape) (tapeWords (s .tape)) (st .tape) (plain .tape-is) tape-long;
+    } in
+    let good : Good (tableIn u n) s = subst (λ T. Good T s) (sym (ignored u w n same)) (after-good w n A p s (plain .after-is)) in
+    subst (λ z. topOf which (givenTo u n z) ≡ topBy none (shows which s)) laid
+    (top-of-state which (givenTo u n (laidDown r (moment s p))) s
+    (laid-enters r (moment s p) fits u n (accepted-ignores w u n (sym same) A) good short-log short-tape))

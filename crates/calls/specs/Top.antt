@@ -16,6 +16,11 @@ use Rattle.calls.specs.Calls.{stateGiven, callTests, Enters}
 pub data Which : Type 0 where
   log tape : Which
 
+-- the one of two that it is told
+abbrev pub asTold : {A : Type 0} → Which → A → A → A
+asTold log l t = l
+asTold tape l t = t
+
 -- What the call answers: a part of the chosen slice, where it lies there (the index of its first word, and how many words it has), and a refusal's number, 0 for none.
 pub record Shown : Type 0 where
   pub part : List ℕ
@@ -68,12 +73,10 @@ seen a = (a .part, a .refusal)
 
 -- The same in words (proofs/Top.antt says that they agree). The slice in which the chosen list lies, and that list's length:
 abbrev pub sliceGiven : Which → Given → List ℕ
-sliceGiven log g = g .log
-sliceGiven tape g = g .tape
+sliceGiven which g = asTold which (g .log) (g .tape)
 
 abbrev pub lengthGiven : Which → Session → ℕ
-lengthGiven log se = se .logLength
-lengthGiven tape se = se .tapeLength
+lengthGiven which se = asTold which (se .logLength) (se .tapeLength)
 
 -- This entry or bullet is on top of the chosen list; the list is empty.
 abbrev pub OnTop : Which → State → Item → Type 0

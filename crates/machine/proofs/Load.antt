@@ -23,6 +23,13 @@ use Rattle.machine.proofs.Nodes.{is-node}
 pub reverse-apart : (above below ys : List ℕ) → reverse (above ++ below) ++ ys ≡ reverse below ++ (reverse above ++ ys)
 reverse-apart above below ys = ap (λ q. q ++ ys) (reverse-append above below) ∙ append-assoc (reverse below) (reverse above) ys
 
+-- Where the words above lie, and what they are there.
+pub words-above : (above below ys : List ℕ) → take (length above) (drop (length below) (reverse (above ++ below) ++ ys)) ≡ reverse above
+words-above above below ys =
+    ap (λ q. take (length above) (drop (length below) q)) (reverse-apart above below ys)
+    ∙ ap (take (length above)) (drop-at (reverse below) _ (length below) (length-reverse below))
+    ∙ take-at (reverse above) _ (length above) (length-reverse above)
+
 -- A log's entries put one after the other onto a list of any kind, the top one last.
 abbrev putAll : {A : Type 0} → (Entry → A → A) → Log → A → A
 putAll put ε a = a

@@ -7,7 +7,7 @@ use lib.ListN.{length, take, drop, getD, set, replicate, length-append, length-r
 use lib.Seq.{take-at, drop-at, take-all, set-at, getD-at}
 use borrow.Rule.Slice.PartMut.{putMid}
 use Rattle.machine.specs.Slice.{slice}
-use Rattle.machine.proofs.Load.{reverse-apart, slice-length, slice-front}
+use Rattle.machine.proofs.Load.{reverse-apart, words-above, slice-length, slice-front}
 
 -- The words ws, from the top, below index n of a slice, and zeros above them.
 pub record Lies (s : List ℕ) (n : ℕ) (ws : List ℕ) : Type 0 where
@@ -59,10 +59,7 @@ module _ (xs ys above : List ℕ) where
 
   -- and what goes
   pub taken-words : take (length xs) (drop (length (xs ++ ys) - length xs) stackOf) ≡ reverse xs
-  taken-words =
-      ap (λ q. take (length xs) (drop (length (xs ++ ys) - length xs) q)) (reverse-apart xs ys above)
-      ∙ ap (take (length xs)) (drop-at (reverse ys) _ (length (xs ++ ys) - length xs) under-xs)
-      ∙ take-at (reverse xs) _ (length xs) (length-reverse xs)
+  taken-words = ap (λ k. take (length xs) (drop k stackOf)) (sym under-xs ∙ length-reverse ys) ∙ words-above xs ys above
 
 -- Zeros above the words ys make the slice in which they lie alone.
 pub zeros-over : (room : ℕ) (ys : List ℕ) (i j : ℕ) → i + j ≡ room - length ys → reverse ys ++ (replicate i 0 ++ replicate j 0) ≡ slice room ys

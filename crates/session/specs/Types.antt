@@ -72,11 +72,6 @@ abbrev pub numberMeant : Option ℕ → ℕ
 numberMeant none = 0
 numberMeant (some k) = k
 
--- the one of two that the call is told
-abbrev pub asTold : {A : Type 0} → Which → A → A → A
-asTold Log l t = l
-asTold Tape l t = t
-
 -- Where the word at index i lies in memory, of a slice that begins there. (A pointer is a block of memory and a byte in it; a word has four bytes.)
 abbrev pub wordPtr : ℕ × ℕ → ℕ → ℕ × ℕ
 wordPtr p i = (p .0, i * 4 + p .1)

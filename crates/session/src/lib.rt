@@ -2,8 +2,8 @@
 ghost use mathlib.Core.Path.{_≡_};
 ghost use lib.ListN.{length, replicate};
 ghost use Rattle.calls.specs.Calls.{openOf, windOf, forwardOf, backOf, goToOf};
-ghost use Rattle.calls.specs.Top.{topOf, seen};
-ghost use Rattle.session.specs.Types.{openingMeant, outcomeMeant, wayMeant, whichMeant, lent, asTold, wordPtr};
+ghost use Rattle.calls.specs.Top.{asTold, topOf, seen};
+ghost use Rattle.session.specs.Types.{openingMeant, outcomeMeant, wayMeant, whichMeant, lent, wordPtr};
 ghost use Rattle.session.specs.Passes.{Refuses};
 
 mod check;
@@ -205,7 +205,7 @@ pub fn top<'a>(
     ensures shown { λ r. ⌜ (now r, now (refusal .exit))
         ≡ seen (topOf (whichMeant which) (lent (now (table .entry)) n session (now (log .entry)) (now (tape .entry)))) ⌝ }
     ensures there { λ r. ⌜ r .ptr
-        ≡ wordPtr (asTold which (log .entry .ptr) (tape .entry .ptr))
+        ≡ wordPtr (asTold (whichMeant which) (log .entry .ptr) (tape .entry .ptr))
         (topOf (whichMeant which) (lent (now (table .entry)) n session (now (log .entry)) (now (tape .entry))) .offset) ⌝ }
 {
     let place = top_place(table, n, session, log, tape, which);

@@ -4,10 +4,10 @@ use Prim.Native.Nat.{_+_, _-_, _≤_}
 use native.Mathlib.Omega.{arith}
 use lib.ListN.{length, take, drop}
 use Rattle.calls.specs.Session.{Given}
-use Rattle.calls.specs.Top.{log, tape, topOf, seen, sliceGiven}
+use Rattle.calls.specs.Top.{log, tape, asTold, topOf, seen, sliceGiven}
 use Rattle.session.specs.declared.Which.{Which}
 use Rattle.session.specs.declared.Which.the-variants.{Log, Tape}
-use Rattle.session.specs.Types.{lent, whichMeant, asTold, wordPtr}
+use Rattle.session.specs.Types.{lent, whichMeant, wordPtr}
 use Rattle.session.specs.Place.{placed}
 use Rattle.session.proofs.Places.{place-fits, place-cut}
 use borrow.Author.Needs.{needs}
@@ -29,11 +29,11 @@ cut-in u x e = place-cut (whichMeant x) (given u) (placed-in u x e) ∙ ap (λ y
 
 there-in : (u : tie.After-top-place) (x : Which) → u .before .before .before .before .args .which ≡ x
     → (let a = u .before .before .before .before .args in
-    wordPtr (asTold x (a .log .ptr) (a .tape .ptr)) (u .top-place .result .offset)
-    ≡ wordPtr (asTold (a .which) (a .log .ptr) (a .tape .ptr)) (topOf (whichMeant (a .which)) (given u) .offset))
+    wordPtr (asTold (whichMeant x) (a .log .ptr) (a .tape .ptr)) (u .top-place .result .offset)
+    ≡ wordPtr (asTold (whichMeant (a .which)) (a .log .ptr) (a .tape .ptr)) (topOf (whichMeant (a .which)) (given u) .offset))
 there-in u x e =
     let a = u .before .before .before .before .args in
-    λ i. wordPtr (asTold (sym e i) (a .log .ptr) (a .tape .ptr)) (u .top-place .ensures i .offset)
+    λ i. wordPtr (asTold (whichMeant (sym e i)) (a .log .ptr) (a .tape .ptr)) (u .top-place .ensures i .offset)
 
 top-place-requires : tie.Need-top-place-requires
 top-place-requires c κs = search needs
