@@ -76,6 +76,23 @@ module _ (way : Way) (T : Table) (r : Room) (count : ℕ) (m : Moment) where
     pub no-stop-next : Fits r (u .state) → stopBefore way T r count m ≡ none
     no-stop-next f = full-by ∙ rw (le-ltb (r .log) (logSize (u .state)) (f .log-fits), le-ltb (r .tape) (tapeSize (u .state)) (f .tape-fits))
 
+  -- no stop means that the next state fits
+  module _ (free : stopBefore way T r count m ≡ none) where
+    clash : (x : Stop) → stopBefore way T r count m ≡ some x → ⊥
+    clash x h = Option·some-ne-none x (sym h ∙ free)
+
+    unhalted : (o : Option Stop) → haltBefore way T count m ≡ o → haltBefore way T count m ≡ none
+    unhalted none e = e
+    unhalted (some x) e = absurd (clash x (halt-before-full x e))
+
+    pub fits-next : (u : Moment) → nextBy way T m ≡ some u → Fits r (u .state)
+    fits-next u next =
+        let on : haltBefore way T count m ≡ none = unhalted (haltBefore way T count m) refl in
+        let l : ¬ (r .log < logSize (u .state)) = λ h. clash logFull (log-full-next on u next h) in
+        let log-fits : logSize (u .state) ≤ r .log = omega arith in
+        let t : ¬ (r .tape < tapeSize (u .state)) = λ h. clash tapeFull (tape-full-next on u next log-fits h) in
+        record { log-fits = log-fits; tape-fits = omega arith }
+
 -- No stop is a refusal.
 abbrev pub IsStop : Stop → Type 0
 IsStop spent = Unit
@@ -104,30 +121,17 @@ module _ (T : Table) (r : Room) where
   pub goes : (c : ℕ) (m : Moment) → stopBefore forward T r (suc c) m ≡ none → Goes m
   goes c m e = by-answer (isAnswer T (m .state)) refl
     where
-      clash : (x : Stop) → stopBefore forward T r (suc c) m ≡ some x → ⊥
-      clash x h = Option·some-ne-none x (sym h ∙ e)
-
       halts : (x : Stop) → haltBefore forward T (suc c) m ≡ some x → ⊥
-      halts x h = clash x (halt-before-full forward T r (suc c) m x h)
+      halts x h = Option·some-ne-none x (sym (halt-before-full forward T r (suc c) m x h) ∙ e)
 
       by-step : isAnswer T (m .state) ≡ false → (o : Option State) → step T (m .state) ≡ o → Goes m
       by-step a none n = absurd (halts jam (jam-before-far T c m a n))
-      by-step a (some u) n = record { next = u; steps = n; fits = record { log-fits = short-log; tape-fits = short-tape }; near = near }
-        where
-          near : m .position ≡ greatest → ⊥
-          near h = halts far (far-before-full T c m a u n h)
-
-          free : haltBefore forward T (suc c) m ≡ none
-          free = no-halt-forward T c m a u n near
-
-          next : nextBy forward T m ≡ some (moment u (suc (m .position)))
-          next = rw n
-
-          short-log : logSize u ≤ r .log
-          short-log = let h : ¬ (r .log < logSize u) = λ h. clash logFull (log-full-next forward T r (suc c) m free _ next h) in omega arith
-
-          short-tape : tapeSize u ≤ r .tape
-          short-tape = let h : ¬ (r .tape < tapeSize u) = λ h. clash tapeFull (tape-full-next forward T r (suc c) m free _ next short-log h) in omega arith
+      by-step a (some u) n = record {
+        next = u;
+        steps = n;
+        fits = fits-next forward T r (suc c) m e (moment u (suc (m .position))) (rw n);
+        near = λ h. halts far (far-before-full T c m a u n h);
+      }
 
       by-answer : (b : Bool) → isAnswer T (m .state) ≡ b → Goes m
       by-answer true a = absurd (halts (answer (m .state .node)) (answer-before-jam T c m a))

@@ -19,6 +19,7 @@ use Rattle.session.specs.declared.Session as Declared
 use Rattle.session.specs.declared.Outcome as Came
 use Rattle.session.specs.declared.Stop as DeclaredStop
 use Rattle.session.specs.declared.Stop.the-variants.{Spent}
+use Rattle.session.specs.declared.choice.Rule.{Rule}
 use Rattle.session.specs.declared.winding.Pass.the-variants.{On, Halted}
 
 -- a run with k steps before it, and the peak q over the states up to its first
@@ -155,9 +156,9 @@ module _ {way : Way} {w : List ℕ} {n : ℕ} {r : Room} {run : Run} {count : �
         (λ i. outcomeMeant (endedBy o x) (el i) (et i))
         ∙ comes-out x (left-by (suc still) one-left ∙ halted-here way (tableIn w n) r (o .steps) (o .peak) standing (l .high) still (stopMeant x) (stop-here (some (stopMeant x)) stops))
 
-    pub loop-goes-on : {ls′ ts′ : List ℕ} {to : Declared.Session} → PassIs w n (o .session) ls ts way (l .state) (On to) ls′ ts′ → Loop way w n r run count (lengthenedTo o to) ls′ ts′
-    loop-goes-on {to = to} p =
-        let (u, e, stops, h, el, et) = p in
+    pub loop-goes-on : {ls′ ts′ : List ℕ} {to : Declared.Session} (rule : Rule) → PassIs w n (o .session) ls ts way (l .state) (On to rule) ls′ ts′ → Loop way w n r run count (lengthenedTo o to) ls′ ts′
+    loop-goes-on {to = to} rule p =
+        let (u, by-rule, e, stops, h, el, et) = p in
         let m : Moment = moment u (to .position) in
         record {
           state = u;

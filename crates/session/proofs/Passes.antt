@@ -102,7 +102,7 @@ module _ {w : List ℕ} {n : ℕ} {se : Declared.Session} {ls ts : List ℕ} {s 
 
       pub goes-on : length ls′ ≡ length ls → length ts′ ≡ length ts → (to : Arrived.Arrival) (next : Declared.Session)
           → StepIs w n about ls ts (facing way s) (Steps.Made to) ls′ ts′ → about .position ≡ se .position
-          → sessionMeant next ≡ sessionAfter way (sessionMeant (arrivedAt (se .position) to)) → PassIs w n se ls ts way s (On next) ls′ ts′
+          → sessionMeant next ≡ sessionAfter way (sessionMeant (arrivedAt (se .position) to)) → PassIs w n se ls ts way s (On next r) ls′ ts′
       goes-on el et to next i same a =
           let (u, e, token) = i in
           let there : TokenAt w n next ls′ ts′ (facing way u) = token-after (subst (λ p. TokenAt w n (arrivedAt p to) ls′ ts′ u) same token) way a in
@@ -113,4 +113,4 @@ module _ {w : List ℕ} {n : ℕ} {se : Declared.Session} {ls ts : List ℕ} {s 
           } in
           let came : nextBy way T here ≡ some (moment (facing way u) (next .position)) =
           next-facing way T s u (sessionMeant (arrivedAt (se .position) to)) e ∙ ap (λ p. some (moment (facing way u) p)) (sym (ap (λ x. x .position) a)) in
-          (facing way u, came, λ c. no-stop-next way T (room ls ts) (suc c) here (b .0 c) _ came fits, there, el, et)
+          (facing way u, b .2, came, λ c. no-stop-next way T (room ls ts) (suc c) here (b .0 c) _ came fits, there, el, et)

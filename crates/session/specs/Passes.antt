@@ -75,10 +75,11 @@ BeforeIs w n se way s (Makes r) =
 abbrev pub TellsBefore : List ℕ → ℕ → Declared.Session → List ℕ → Way → Before → Type 0
 TellsBefore w n se ts way b = (ls : List ℕ) (s : State) → TokenAt w n se ls ts s → BeforeIs w n se way s b
 
--- One pass of the loop, the count not used up: on to the next moment, or halted where it stands.
+-- One pass of the loop, the count not used up: on to the next moment by a rule, or halted where it stands.
 abbrev pub PassIs : List ℕ → ℕ → Declared.Session → List ℕ → List ℕ → Way → State → Pass → List ℕ → List ℕ → Type 0
-PassIs w n se ls ts way s (On to) ls′ ts′ =
+PassIs w n se ls ts way s (On to r) ls′ ts′ =
     (u : State)
+    × RuleIs (tableIn w n) (facing way s) r
     × (nextBy way (tableIn w n) (moment s (se .position)) ≡ some (moment u (to .position)))
     × ((c : ℕ) → stopBefore way (tableIn w n) (room ls ts) (suc c) (moment s (se .position)) ≡ none)
     × TokenAt w n to ls′ ts′ u

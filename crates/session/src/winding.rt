@@ -30,9 +30,9 @@ pub(crate) enum Before {
     Makes(Rule),
 }
 
-// One pass of the loop: on with the session after a step, or halted.
+// One pass of the loop: on with the session after a step, and the rule that it was made by; or halted.
 pub(crate) enum Pass {
-    On(Session),
+    On(Session, Rule),
     Halted(Stop),
 }
 
@@ -155,7 +155,7 @@ fn one_pass(
             match stepped {
                 Stepped::Made(to) => {
                     let next = after_step(session, to, way);
-                    Pass::On(next)
+                    Pass::On(next, rule)
                 }
                 Stepped::LogFull => Pass::Halted(Stop::LogFull),
                 Stepped::TapeFull => Pass::Halted(Stop::TapeFull),
@@ -248,7 +248,7 @@ pub(crate) fn wind(
             Pass::Halted(stop) => {
                 return halted(run, stop);
             }
-            Pass::On(to) => {
+            Pass::On(to, _) => {
                 run = lengthened(run, to);
             }
         }

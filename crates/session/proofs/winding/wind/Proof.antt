@@ -70,7 +70,7 @@ next : (c : tie.After-known-told2 Inv-loop μ-loop) (s : State) →
     → LoopOf (wayMeant (a .way)) (a .table .now) (a .n) (a .count) (a .session) (a .log .now) (a .tape .now) s (lengthenedTo (l .loop .run) (c .before .pass2 .given .0 .0)) (k .last .1 .1 .1 .0) (k .last .1 .1 .1 .1 .0))
 next c s h =
     let l = loop-at (c .before .before .before .before .before .before .before .before .before .before .before .before .before) s h in
-    loop-goes-on l (c .before .before .before .before .before .before .before .before .before .before .before .if1 .taken) (rw (c .before .pass2 .given .1) at (c .before .before .before .before .before .before .before .one-pass .ensures (l .state) (l .token)))
+    loop-goes-on l (c .before .before .before .before .before .before .before .before .before .before .before .if1 .taken) (c .before .pass2 .given .0 .1 .0) (rw (c .before .pass2 .given .1) at (c .before .before .before .before .before .before .before .one-pass .ensures (l .state) (l .token)))
 
 lengthened-requires : tie.Need-lengthened-requires Inv-loop μ-loop
 lengthened-requires c κs = let p = c .before .before .before .before .before .before .before .before .before .before .before .before .before .before .before .before .before .before .pre in (light (next c (p .state) (p .token) .token), omega (arith, c .before .before .before .before .before .before .before .before .before .before .before .if1 .taken, c .before .before .before .before .before .before .before .before .before .before .before .before .before .before .before .before .before .before .fits .count))
