@@ -1,5 +1,5 @@
 #!/usr/bin/env python3
-"""An independent reading of document 01, and of change 1 of document 02, from which the expected outputs of the programs `cases` and `winder` are worked out.
+"""An independent reading of document 01, and of changes 1 and 2 of document 02, from which the expected outputs of the programs `cases` and `winder` are worked out.
 
   tools/reference.py cases < SCRIPT   what `cases` must print for a script of cases, as crates/cases/stdin (script.py)
   tools/reference.py winder < TERM    what `winder` must print for a term
@@ -8,6 +8,7 @@ It shares nothing with the crates: terms are trees with names, entries are neste
 checked by reading its words back. It is slow and plain on purpose.
 """
 import sys
+import threading
 
 GREATEST = 4294967295
 
@@ -187,13 +188,21 @@ def words(items):
     return out
 
 
-def weight(s):
-    return len(words(s[2])) + len(words(s[3]))
+def positions(e):
+    """An entry is a logged position, and so is each entry inside it."""
+    return 1 + sum(positions(x) for x in e[1])
+
+
+def weight(m, s):
+    """Bullets, plus X times the logged positions, X being the number of binary digits of n."""
+    held = [x for x in s[3] if x is not None]
+    x = len(format(len(m.t), 'b'))
+    return len(s[3]) - len(held) + x * sum(positions(e) for e in s[2] + held)
 
 
 def wind(m, s, position, count, log_room, tape_room, back):
     """The last state, its position, the steps, the stop and the peak."""
-    steps, peak = 0, weight(s)
+    steps, peak = 0, weight(m, s)
     while True:
         if count == 0:
             return s, position, steps, 'spent', peak
@@ -216,7 +225,7 @@ def wind(m, s, position, count, log_room, tape_room, back):
         if len(words(u[3])) > tape_room:
             return s, position, steps, 'tape full', peak
         s, position, steps, count = u, position + (-1 if back else 1), steps + 1, count - 1
-        peak = max(peak, weight(s))
+        peak = max(peak, weight(m, s))
 
 
 START = (1, 'd', [], [])
@@ -379,11 +388,18 @@ def winder(text):
     raise AssertionError
 
 
-if __name__ == '__main__':
-    if sys.argv[1:] == ['winder']:
+def main():
+    if sys.argv[1] == 'winder':
         print('\n'.join(winder(sys.stdin.buffer.read())))
-    elif sys.argv[1:] == ['cases']:
+    else:
         import script
         sys.stdout.buffer.write(script.run(sys.stdin.buffer.read()))
-    else:
+
+
+if __name__ == '__main__':
+    if sys.argv[1:] not in (['winder'], ['cases']):
         sys.exit(__doc__)
+    # entries may stand inside entries as deep as a slice is long
+    sys.setrecursionlimit(70000)
+    threading.stack_size(1 << 29)
+    threading.Thread(target=main).start()

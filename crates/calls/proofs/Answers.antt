@@ -38,7 +38,7 @@ unchanged none none g run stops k e = as-given 9 g
 unchanged none (some s) g run stops k e = absurd (subst IsStop e (stops (moment s (g .session .position))))
 
 -- what holds of forward and of back by a count holds of go-to
-either-way : (P : Outcome → Type 0) (b : Bool) (x y : Unit {0} → Outcome) → ((i : Unit {0}) → P (x i)) → ((i : Unit {0}) → P (y i)) → P (choose b x y)
+pub either-way : (P : Outcome → Type 0) (b : Bool) (x y : Unit {0} → Outcome) → ((i : Unit {0}) → P (x i)) → ((i : Unit {0}) → P (y i)) → P (choose b x y)
 either-way P true x y f h = f tt
 either-way P false x y f h = h tt
 

@@ -4,9 +4,11 @@ pub mod Held
 pub mod Unrefused
 pub mod Stops
 pub mod Winds
+pub mod Digits
 pub mod Peaks
 pub mod Runs
 pub mod Answers
 pub mod Top
+pub mod Weight
 pub mod Third
 pub mod RoundTrip

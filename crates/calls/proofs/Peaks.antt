@@ -9,7 +9,8 @@ use Rattle.term.specs.Choice.{_>>=_}
 use Rattle.term.specs.Table.{Table}
 use Rattle.calls.specs.Session.{Stop, spent}
 use Rattle.calls.specs.Stops.{Way, Moment, Room, nextBy}
-use Rattle.calls.specs.Winding.{weight, Run, ended, longer, wind}
+use Rattle.calls.specs.Weight.{weight}
+use Rattle.calls.specs.Winding.{Run, ended, longer, wind}
 use Rattle.calls.proofs.Winds.{each-run}
 
 module _ (way : Way) (T : Table) where

@@ -1,5 +1,7 @@
 pub mod Session
 pub mod Stops
+pub mod Digits
+pub mod Weight
 pub mod Winding
 pub mod Held
 pub mod Calls

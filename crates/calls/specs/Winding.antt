@@ -1,16 +1,12 @@
 -- The steps of one call: how far it goes, how it stops, and its peak.
-use Prim.Native.Nat.{ℕ, zero, suc, _+_, max}
+use Prim.Native.Nat.{ℕ, zero, suc, max}
 use Rattle.term.specs.Choice.{ifSome}
 use Rattle.term.specs.Table.{Table}
-use Rattle.machine.specs.Machine.{State}
 use Rattle.calls.specs.Session.{Stop, spent, jam}
-use Rattle.calls.specs.Stops.{Way, Moment, Room, logSize, tapeSize, nextBy, stopBefore}
+use Rattle.calls.specs.Stops.{Way, Moment, Room, nextBy, stopBefore}
+use Rattle.calls.specs.Weight.{weight}
 
--- "the most words in log and tape together": what a peak is the greatest of, on a table
-abbrev pub weight : Table → State → ℕ
-weight T s = logSize s + tapeSize s
-
--- where a call ends, the steps made, the stop, and the peak "over the states stood in, first and last included"
+-- where a call ends, the steps made, the stop, and the peak: "the greatest such weight" (document 02, change 2) "over the states stood in, first and last included"
 pub record Run : Type 0 where
   pub last : Moment
   pub steps : ℕ

@@ -10,6 +10,8 @@ use Rattle.text.specs.Reading.{meant, readerNumber, readOf}
 use Rattle.machine.specs.Machine.{goDown, goUp, stepBy, afterFrom}
 use Rattle.machine.specs.Slice.{slice, putOnLog, readLog, putOnTape, readTape, allZero}
 use Rattle.calls.specs.Stops.{stopBefore}
+use Rattle.calls.specs.Digits.{digitsIn, digits}
+use Rattle.calls.specs.Weight.{weight}
 use Rattle.calls.specs.Winding.{wind}
 use Rattle.calls.specs.Held.{wellFormed, stateIn}
 use Rattle.calls.specs.Calls.{lentNumber, callNumber, openOf, windOf, goToOf}
@@ -20,5 +22,5 @@ unfolding exampleText identityText openText example exampleTable identity fresh 
     rowsOf tableOf tableIn kindOf placeUnder partBy partAt accepted
     classOf pieces phraseAt parse indexOf nameless meant readerNumber readOf
     goDown goUp stepBy afterFrom slice putOnLog readLog putOnTape readTape allZero
-    stopBefore wind wellFormed stateIn lentNumber callNumber openOf windOf goToOf
+    stopBefore digitsIn digits weight wind wellFormed stateIn lentNumber callNumber openOf windOf goToOf
 cases-hold = refl

@@ -13,5 +13,6 @@ pub mod Places
 pub mod Chosen
 pub mod Facing
 pub mod Passes
+pub mod Weighing
 pub mod Loops
 pub mod Calls

@@ -9,18 +9,21 @@ use Rattle.term.specs.Table.{Table, tableIn}
 use Rattle.machine.specs.Machine.{State}
 use Rattle.calls.specs.Session.{Stop, spent}
 use Rattle.calls.specs.Stops.{Way, Moment, moment, Room, room, nextBy, stopBefore}
-use Rattle.calls.specs.Winding.{weight, Run, ended, wind}
+use Rattle.calls.specs.Weight.{bullets, weight}
+use Rattle.calls.specs.Winding.{Run, ended, wind}
 use Rattle.calls.specs.Calls.{wound}
 use Rattle.calls.proofs.Peaks.{walked}
-use Rattle.session.specs.Types.{stopMeant, outcomeMeant}
+use Rattle.session.specs.Types.{sessionMeant, stopMeant, outcomeMeant}
 use Rattle.session.specs.Steps.{TokenAt, Ready}
-use Rattle.session.specs.Passes.{PassIs, weightOf, begunAt, lengthenedTo, endedBy}
+use Rattle.session.specs.Weight.{weightOf, Weighable, bulletsAfter, HasCount}
+use Rattle.session.specs.Passes.{PassIs, begunAt, lengthenedTo, endedBy}
 use Rattle.session.specs.declared.Session as Declared
 use Rattle.session.specs.declared.Outcome as Came
 use Rattle.session.specs.declared.Stop as DeclaredStop
 use Rattle.session.specs.declared.Stop.the-variants.{Spent}
 use Rattle.session.specs.declared.choice.Rule.{Rule}
 use Rattle.session.specs.declared.winding.Pass.the-variants.{On, Halted}
+use Rattle.session.proofs.Weighing.{few-bullets, pass-counted, pass-countable, weighs, weighable}
 
 -- a run with k steps before it, and the peak q over the states up to its first
 abbrev precededBy : ℕ → ℕ → Run → Run
@@ -67,31 +70,25 @@ module _ (way : Way) (T : Table) (r : Room) where
         let p : max q (max (weight T (m .state)) (run .peak)) ≡ max (max q (weight T (u .state))) (run .peak) = omega arith in
         rw (e, n) (λ i. record { last = run .last; steps = j i; stop = run .stop; peak = p i })
 
--- The loop of a call with its running outcome o, over slices of the lengths in r: what it still has to run is what is left of the whole run.
-pub record Loop (way : Way) (w : List ℕ) (n : ℕ) (r : Room) (run : Run) (count : ℕ) (o : Came.Outcome) (ls ts : List ℕ) : Type 0 where
+-- The loop of a call with its running outcome o and its count of bullets b, over slices of the lengths in r: what it still has to run is what is left of the whole run.
+pub record Loop (way : Way) (w : List ℕ) (n : ℕ) (r : Room) (run : Run) (count : ℕ) (o : Came.Outcome) (b : ℕ) (ls ts : List ℕ) : Type 0 where
   pub state : State
   pub token : TokenAt w n (o .session) ls ts state
   pub unhalted : o .stop ≡ Spent
   pub same-log : length ls ≡ r .log
   pub same-tape : length ts ≡ r .tape
+  pub counted : b ≡ bullets (state .tape)
   pub high : weight (tableIn w n) state ≤ o .peak
   pub left : precededBy (o .steps) (o .peak) (wind way (tableIn w n) r (count - o .steps) (moment state (o .session .position))) ≡ run
 
 -- the loop of the call that is given state s₀
-abbrev pub LoopOf : Way → List ℕ → ℕ → ℕ → Declared.Session → List ℕ → List ℕ → State → Came.Outcome → List ℕ → List ℕ → Type 0
-LoopOf way w n count se₀ ls₀ ts₀ s₀ o ls ts =
-    Loop way w n (room ls₀ ts₀) (wind way (tableIn w n) (room ls₀ ts₀) count (moment s₀ (se₀ .position))) count o ls ts
+abbrev pub LoopOf : Way → List ℕ → ℕ → ℕ → Declared.Session → List ℕ → List ℕ → State → Came.Outcome → ℕ → List ℕ → List ℕ → Type 0
+LoopOf way w n count se₀ ls₀ ts₀ s₀ o b ls ts =
+    Loop way w n (room ls₀ ts₀) (wind way (tableIn w n) (room ls₀ ts₀) count (moment s₀ (se₀ .position))) count o b ls ts
 
 module _ {w : List ℕ} {n : ℕ} {se : Declared.Session} {ls ts : List ℕ} {s : State} (h : TokenAt w n se ls ts s) where
-  -- the session's lengths are those of the state that it holds, and their sum is small
-  weighs : weightOf se ≡ weight (tableIn w n) s
-  weighs = let a = h .enters .holds .log-length in let b = h .enters .holds .tape-length in λ i. a i + b i
-
-  pub light : weightOf se ≤ 32768
-  light = omega (arith, h .enters .holds .log-fits, h .enters .holds .tape-fits, h .enters .short-log, h .enters .short-tape)
-
-  pub loop-begins : (way : Way) (count : ℕ) → LoopOf way w n count se ls ts s (begunAt se) ls ts
-  loop-begins way count =
+  pub loop-begins : (way : Way) (count b : ℕ) → b ≡ bullets (s .tape) → LoopOf way w n count se ls ts s (begunAt n se b) b ls ts
+  loop-begins way count b k =
       let m : Moment = moment s (se .position) in
       let e : count - 0 ≡ count = omega arith in
       record {
@@ -100,11 +97,12 @@ module _ {w : List ℕ} {n : ℕ} {se : Declared.Session} {ls ts : List ℕ} {s 
         unhalted = refl;
         same-log = refl;
         same-tape = refl;
-        high = omega (arith, weighs);
-        left = ap (λ c. precededBy 0 (weightOf se) (wind way (tableIn w n) (room ls ts) c m)) e ∙ none-before way (tableIn w n) (room ls ts) count (weightOf se) m weighs;
+        counted = k;
+        high = omega (arith, weighs h k);
+        left = ap (λ c. precededBy 0 (weightOf n se b) (wind way (tableIn w n) (room ls ts) c m)) e ∙ none-before way (tableIn w n) (room ls ts) count (weightOf n se b) m (weighs h k);
       }
 
-module _ {way : Way} {w : List ℕ} {n : ℕ} {r : Room} {run : Run} {count : ℕ} {o : Came.Outcome} {ls ts : List ℕ} (l : Loop way w n r run count o ls ts) where
+module _ {way : Way} {w : List ℕ} {n : ℕ} {r : Room} {run : Run} {count : ℕ} {o : Came.Outcome} {b : ℕ} {ls ts : List ℕ} (l : Loop way w n r run count o b ls ts) where
   pub ready : Ready w n (o .session) ls ts
   ready = record { state = l .state; token = l .token }
 
@@ -156,18 +154,30 @@ module _ {way : Way} {w : List ℕ} {n : ℕ} {r : Room} {run : Run} {count : �
         (λ i. outcomeMeant (endedBy o x) (el i) (et i))
         ∙ comes-out x (left-by (suc still) one-left ∙ halted-here way (tableIn w n) r (o .steps) (o .peak) standing (l .high) still (stopMeant x) (stop-here (some (stopMeant x)) stops))
 
-    pub loop-goes-on : {ls′ ts′ : List ℕ} {to : Declared.Session} (rule : Rule) → PassIs w n (o .session) ls ts way (l .state) (On to rule) ls′ ts′ → Loop way w n r run count (lengthenedTo o to) ls′ ts′
-    loop-goes-on {to = to} rule p =
-        let (u, by-rule, e, stops, h, el, et) = p in
-        let m : Moment = moment u (to .position) in
-        record {
-          state = u;
-          token = h;
-          unhalted = refl;
-          same-log = el ∙ l .same-log;
-          same-tape = et ∙ l .same-tape;
-          high = omega (arith, weighs h);
-          left =
-              ap (λ q. precededBy (o .steps + 1) (max (o .peak) q) (wind way (tableIn w n) r still m)) (weighs h)
-              ∙ sym (left-by (suc still) one-left ∙ one-more way (tableIn w n) r (o .steps) (o .peak) standing (l .high) still m (stop-here none stops) e);
-        }
+    module _ {ls′ ts′ : List ℕ} {to : Declared.Session} (rule : Rule) (p : PassIs w n (o .session) ls ts way (l .state) (On to rule) ls′ ts′) where
+      -- the bullets after the step, and that there is such a number
+      still-counted : bulletsAfter rule b ≡ bullets (p .0 .tape)
+      still-counted = ap (bulletsAfter rule) (l .counted) ∙ sym (pass-counted way (tableIn w n) (l .state) rule (p .1) (sessionMeant (o .session)) (moment (p .0) (to .position)) (p .2))
+
+      pub loop-countable : HasCount rule b
+      loop-countable = subst (HasCount rule) (sym (l .counted)) (pass-countable way (tableIn w n) (l .state) rule (p .1) (few-bullets (l .token)))
+
+      pub loop-weighable : Weighable n to (bulletsAfter rule b)
+      loop-weighable = weighable (p .4) still-counted
+
+      pub loop-goes-on : Loop way w n r run count (lengthenedTo o n to (bulletsAfter rule b)) (bulletsAfter rule b) ls′ ts′
+      loop-goes-on =
+          let (u, by-rule, e, stops, h, el, et) = p in
+          let m : Moment = moment u (to .position) in
+          record {
+            state = u;
+            token = h;
+            unhalted = refl;
+            same-log = el ∙ l .same-log;
+            same-tape = et ∙ l .same-tape;
+            counted = still-counted;
+            high = omega (arith, weighs h still-counted);
+            left =
+                ap (λ q. precededBy (o .steps + 1) (max (o .peak) q) (wind way (tableIn w n) r still m)) (weighs h still-counted)
+                ∙ sym (left-by (suc still) one-left ∙ one-more way (tableIn w n) r (o .steps) (o .peak) standing (l .high) still m (stop-here none stops) e);
+          }

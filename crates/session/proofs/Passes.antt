@@ -29,7 +29,7 @@ use Rattle.session.specs.declared.winding.Pass.the-variants.{On, Halted}
 use Rattle.session.proofs.Facing.{token-after, log-facing, tape-facing, next-facing}
 
 -- every rule makes a step
-rule-steps : (T : Table) (s : State) (r : Rule) → RuleIs T s r → (u : State) × (step T s ≡ some u)
+abbrev pub rule-steps : (T : Table) (s : State) (r : Rule) → RuleIs T s r → (u : State) × (step T s ≡ some u)
 rule-steps T s (One j) f = (_, f)
 rule-steps T s (Two j) f = (_, f .2)
 rule-steps T s (Three j) f = (_, f .1)

@@ -19,7 +19,7 @@ use Rattle.session.specs.Types.{numberMeant}
 use Rattle.session.proofs.Numbers.{number-some}
 
 -- the word at i, and the words after it
-next-word : (s : List ℕ) (i : ℕ) → i < length s → drop i s ≡ getD s i 0 ∷ drop (i + 1) s
+pub next-word : (s : List ℕ) (i : ℕ) → i < length s → drop i s ≡ getD s i 0 ∷ drop (i + 1) s
 next-word s i h = rw (add-one, drop-cons s i 0)
 
 module _ (s : List ℕ) (i : ℕ) where

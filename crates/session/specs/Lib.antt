@@ -4,4 +4,5 @@ pub mod Mover
 pub mod Place
 pub mod Steps
 pub mod Rules
+pub mod Weight
 pub mod Passes

@@ -13,6 +13,7 @@ use Rattle.calls.specs.Calls.{wound, refusedOutcome}
 use Rattle.session.specs.Types.{wayMeant, stopMeant, outcomeMeant, lent}
 use Rattle.session.specs.Steps.{TokenAt}
 use Rattle.session.specs.Rules.{RuleIs}
+use Rattle.session.specs.Weight.{weightOf}
 use Rattle.session.specs.declared.Session as Declared
 use Rattle.session.specs.declared.Outcome as Came
 use Rattle.session.specs.declared.Stop.the-variants.{Spent}
@@ -91,15 +92,12 @@ PassIs w n se ls ts way s (Halted x) ls′ ts′ =
 abbrev pub Passes : List ℕ → ℕ → Declared.Session → List ℕ → List ℕ → DeclaredWay.Way → Pass → List ℕ → List ℕ → Type 0
 Passes w n se ls ts way p ls′ ts′ = (s : State) → TokenAt w n se ls ts s → PassIs w n se ls ts (wayMeant way) s p ls′ ts′
 
--- The running outcome of a loop: of no step, with one step more, and halted.
-abbrev pub weightOf : Declared.Session → ℕ
-weightOf se = se .«log_len» + se .«tape_len»
+-- The running outcome of a loop: of no step, with one step more, and halted. The last number is that of the bullets there.
+abbrev pub begunAt : ℕ → Declared.Session → ℕ → Came.Outcome
+begunAt n se b = record { session = se; steps = 0; stop = Spent; peak = weightOf n se b }
 
-abbrev pub begunAt : Declared.Session → Came.Outcome
-begunAt se = record { session = se; steps = 0; stop = Spent; peak = weightOf se }
-
-abbrev pub lengthenedTo : Came.Outcome → Declared.Session → Came.Outcome
-lengthenedTo o to = record { session = to; steps = o .steps + 1; stop = Spent; peak = max (o .peak) (weightOf to) }
+abbrev pub lengthenedTo : Came.Outcome → ℕ → Declared.Session → ℕ → Came.Outcome
+lengthenedTo o n to b = record { session = to; steps = o .steps + 1; stop = Spent; peak = max (o .peak) (weightOf n to b) }
 
 abbrev pub endedBy : Came.Outcome → DeclaredStop.Stop → Came.Outcome
 endedBy o x = record { session = o .session; steps = o .steps; stop = x; peak = o .peak }

@@ -12,6 +12,7 @@ mod extent;
 mod mover;
 mod part;
 mod rules;
+mod weight;
 mod winding;
 
 use check::call_number;
@@ -58,7 +59,7 @@ pub struct Opening {
     pub refusal: u32,
 }
 
-// What forward, back and go-to answer.
+// What forward, back and go-to answer. The peak is the greatest weight over the states stood in, in bits (document 02, change 2).
 pub struct Outcome {
     pub session: Session,
     pub steps: u32,

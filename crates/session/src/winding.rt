@@ -5,7 +5,8 @@ ghost use lib.ListN.{length};
 ghost use Rattle.machine.specs.Machine.{turned as otherDir};
 ghost use Rattle.session.specs.Types.{dirMeant, sessionMeant, wayMeant};
 ghost use Rattle.session.specs.Steps.{Ready, arrivedAt};
-ghost use Rattle.session.specs.Passes.{turnedSession, facingSession, HasNext, sessionAfter, TellsBefore, Passes, weightOf, begunAt, lengthenedTo, endedBy, Winds};
+ghost use Rattle.session.specs.Passes.{turnedSession, facingSession, HasNext, sessionAfter, TellsBefore, Passes, begunAt, lengthenedTo, endedBy, Winds};
+ghost use Rattle.session.specs.Weight.{Weighable};
 use crate::Dir;
 use crate::Outcome;
 use crate::Session;
@@ -17,6 +18,9 @@ use crate::rules::Arrival;
 use crate::rules::Stepped;
 use crate::rules::is_answer;
 use crate::rules::step;
+use crate::weight::bullets_after;
+use crate::weight::bullets_in;
+use crate::weight::weight;
 
 // Which way a call goes.
 pub(crate) enum Way {
@@ -170,20 +174,12 @@ fn larger(a: u32, b: u32) -> u32
     if a < b { b } else { a }
 }
 
-// The words of log and tape together: what a peak is the greatest of.
-fn weight(session: Session) -> u32
-    requires { ⌜ weightOf session ≤ 32768 ⌝ }
-    ensures { λ r. ⌜ r ≡ weightOf session ⌝ }
+// The outcome of no step, with so many bullets on the tape.
+fn begun(n: u32, session: Session, bullets: u32) -> Outcome
+    requires { ⌜ Weighable n session bullets ⌝ }
+    ensures { λ r. ⌜ r ≡ begunAt n session bullets ⌝ }
 {
-    session.log_len + session.tape_len
-}
-
-// The outcome of no step.
-fn begun(session: Session) -> Outcome
-    requires { ⌜ weightOf session ≤ 32768 ⌝ }
-    ensures { λ r. ⌜ r ≡ begunAt session ⌝ }
-{
-    let peak = weight(session);
+    let peak = weight(n, session, bullets);
     Outcome {
         session: session,
         steps: 0,
@@ -199,13 +195,13 @@ fn one_more(steps: u32) -> u32
     steps + 1
 }
 
-// The outcome with one step more.
-fn lengthened(run: Outcome, to: Session) -> Outcome
-    requires { ⌜ (weightOf to ≤ 32768) × (run .steps < 4294967295) ⌝ }
-    ensures { λ r. ⌜ r ≡ lengthenedTo run to ⌝ }
+// The outcome with one step more, to so many bullets on the tape.
+fn lengthened(run: Outcome, n: u32, to: Session, bullets: u32) -> Outcome
+    requires { ⌜ Weighable n to bullets × (run .steps < 4294967295) ⌝ }
+    ensures { λ r. ⌜ r ≡ lengthenedTo run n to bullets ⌝ }
 {
     let steps = one_more(run.steps);
-    let peak = larger(run.peak, weight(to));
+    let peak = larger(run.peak, weight(n, to, bullets));
     Outcome {
         session: to,
         steps: steps,
@@ -227,7 +223,7 @@ fn halted(run: Outcome, stop: Stop) -> Outcome
     }
 }
 
-// At most `count` passes, and the peak over the states stood in.
+// At most `count` passes, and the peak over the states stood in. The bullets are counted once, and then kept count of.
 pub(crate) fn wind(
     table: &[u32],
     n: u32,
@@ -240,7 +236,8 @@ pub(crate) fn wind(
     requires { ⌜ Ready (now table) n session (now log) (now tape) ⌝ }
     ensures { λ r. ⌜ Winds (now (table .entry)) n session (now (log .entry)) (now (tape .entry)) way count r (now (log .exit)) (now (tape .exit)) ⌝ }
 {
-    let mut run = begun(session);
+    let mut bullets = bullets_in(&tape[..session.tape_len as usize]);
+    let mut run = begun(n, session, bullets);
     while run.steps < count {
         let here = run.session;
         let pass = one_pass(table, n, here, log, tape, way);
@@ -248,8 +245,9 @@ pub(crate) fn wind(
             Pass::Halted(stop) => {
                 return halted(run, stop);
             }
-            Pass::On(to, _) => {
-                run = lengthened(run, to);
+            Pass::On(to, rule) => {
+                bullets = bullets_after(rule, bullets);
+                run = lengthened(run, n, to, bullets);
             }
         }
     }
