@@ -100,7 +100,10 @@ typedef struct yildreuz_outcome {
     uint32_t stop;            /* why it ended: YILDREUZ_SPENT to YILDREUZ_REFUSED */
     uint32_t value;           /* the answer's node or the refusal's number; 0 with every other stop */
     uint32_t value2;          /* 0: no stop has a second value */
-    uint32_t peak;            /* the most words in log and tape together over the states stood in; 0 in a refusal */
+    uint32_t peak;            /* the greatest weight over the states stood in, first and last included: 1 for each
+                                 bullet, and for each logged position, nested ones included, as many as n has binary
+                                 digits; at most 393,216, and 0 in a refusal. A session weighs so on its own slices:
+                                 each word 0 among the tape's counts 1, each other word of the two lists the digits */
 } yildreuz_outcome;
 
 /* What top answers: where the part lies in the slice that the caller lent for the chosen list. */

@@ -10,7 +10,7 @@ and used so:
     table, log, tape = yildreuz.words(100), yildreuz.words(64), yildreuz.words(64)
     n, refusal = lib.read(rb'(\\x.x x)(\\y.y)', table)
     session, refusal = lib.open(table, n, log, tape)
-    out = lib.forward(table, n, session, log, tape, 100)    # out.steps 12, out.stop ANSWER, out.value 6
+    out = lib.forward(table, n, session, log, tape, 100)    # out.steps 12, out.stop ANSWER, out.value 6, out.peak 6 (in bits)
     part, refusal = lib.top(table, n, out.session, log, tape, yildreuz.LOG)
     newest = memoryview(log)[part.offset:part.offset + part.len]    # the newest log entry, no word of it copied: 7, 5
     home = lib.back(table, n, out.session, log, tape, out.steps)

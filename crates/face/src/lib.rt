@@ -25,7 +25,7 @@ pub struct HostOpening {
 }
 
 // What forward, back and go-to answer. Stop: 0 spent, 1 answer, 2 jam, 3 far, 4 start, 5 log full, 6 tape full, 7 refused.
-// Value: the answer's node, the refusal's number, or 0; no stop has a second value.
+// Value: the answer's node, the refusal's number, or 0; no stop has a second value. Peak: the greatest weight over the states stood in, in bits.
 #[repr(C)]
 pub struct HostOutcome {
     pub session: HostSession,
