@@ -7,16 +7,16 @@ use native.Mathlib.Nat.{le-trans, zero-add, suc-add, add-comm, mul-le-mul-right}
 use native.Mathlib.Omega.{arith}
 use lib.ListN.{length, take, length-append}
 use lib.Dec.{leb}
-use Rattle.term.specs.Table.{Table, tableIn, variable, kindAt}
+use Rattle.term.specs.Table.{Table, tableIn}
 use Rattle.term.specs.Facts.{Facts}
 use Rattle.term.specs.Accepted.{mostNodes}
 use Rattle.term.proofs.Facts.{accepted-facts}
 use Rattle.machine.specs.Entries.{Entry, entry, Log, ε, _▸_, bullet, held, Tape, entryWords, logWords, tapeWords}
 use Rattle.machine.specs.Machine.{State}
 use Rattle.machine.specs.Good.{EntryIn, LogIn, TapeIn}
-use Rattle.machine.proofs.Nodes.{is-node}
+use Rattle.machine.proofs.Nodes.{not-zero}
 use Rattle.machine.proofs.Load.{slice-front}
-use Rattle.calls.specs.Session.{Given}
+use Rattle.calls.specs.Session.{Outcome, Given}
 use Rattle.calls.specs.Stops.{Way, forward, back, Moment, moment, Room, room, logSize, tapeSize}
 use Rattle.calls.specs.Digits.{digits, HasDigits}
 use Rattle.calls.specs.Weight.{bullets, entryPositions, logPositions, tapePositions, loggedPositions, weight, zeroWords, bulletsGiven, weightGiven, heaviest}
@@ -79,15 +79,14 @@ zeros-reverse (x ∷ xs) =
     ∙ add-comm (zeroWords xs) (zeroWords (x ∷ []))
     ∙ sym (zeros-append (x ∷ []) xs)
 
-module _ (T : Table) (F : Facts T) where
-  -- a variable's word is a node's, and no node is 0
-  zeros-under : (v : ℕ) (ws : List ℕ) → kindAt T v ≡ variable → zeroWords (v ∷ ws) ≡ zeroWords ws
-  zeros-under zero ws k = absurd (let h : 1 ≤ 0 = is-node T F 0 variable k tt .from-one in omega arith)
-  zeros-under (suc v) ws k = refl
+pub other-word : (v : ℕ) (ws : List ℕ) → (v ≡ 0 → ⊥) → zeroWords (v ∷ ws) ≡ zeroWords ws
+other-word zero ws z = absurd (z refl)
+other-word (suc v) ws z = refl
 
+module _ (T : Table) (F : Facts T) where
   mutual
     entry-zeros : (e : Entry) → EntryIn T e → zeroWords (entryWords e) ≡ 0
-    entry-zeros (entry v es) h = zeros-under v (logWords es) (h .0) ∙ log-zeros es (h .2)
+    entry-zeros (entry v es) h = other-word v (logWords es) (not-zero T F v (h .0)) ∙ log-zeros es (h .2)
 
     log-zeros : (L : Log) → LogIn T L → zeroWords (logWords L) ≡ 0
     log-zeros ε h = refl
@@ -160,7 +159,17 @@ unfolding goToOf
 peak-light (by way) g c = wind-light g way c
 peak-light go-to g q = either-way (λ o. o .peak ≤ heaviest) (leb (g .session .position) q) _ _ (λ i. wind-light g forward _) (λ i. wind-light g back _)
 
--- The peak of a call that is not refused, either way and whatever its stop, is the greatest weight over the states stood in, first and last included. (Go-to is one of the two.)
-pub peak-greatest : (g : Given) (s : State) → Enters g s → (way : Way) (c : ℕ)
-    → (run : Run) × (windOf way g c ≡ wound (room (g .log) (g .tape)) run) × Walked way (tableIn (g .table) (g .n)) (moment s (g .session .position)) run
-peak-greatest g s h way c = (_, winds g s h way c, walked way (tableIn (g .table) (g .n)) (room (g .log) (g .tape)) c (moment s (g .session .position)))
+-- The outcome is that of a run this way from the state given, and its peak the greatest weight over the states stood in, first and last included.
+abbrev pub PeakOver : Given → State → Way → Outcome → Type 0
+PeakOver g s way o =
+    (run : Run) × (o ≡ wound (room (g .log) (g .tape)) run) × Walked way (tableIn (g .table) (g .n)) (moment s (g .session .position)) run
+
+-- So it is in each call that is not refused, whatever its stop: forward, back,
+pub wind-greatest : (g : Given) (s : State) → Enters g s → (way : Way) (c : ℕ) → PeakOver g s way (windOf way g c)
+wind-greatest g s h way c = (_, winds g s h way c, walked way (tableIn (g .table) (g .n)) (room (g .log) (g .tape)) c (moment s (g .session .position)))
+
+-- and go-to, one way or the other.
+pub go-to-greatest : (g : Given) (s : State) → Enters g s → (q : ℕ) → (way : Way) × PeakOver g s way (goToOf g q)
+unfolding goToOf
+go-to-greatest g s h q =
+    either-way (λ o. (way : Way) × PeakOver g s way o) (leb (g .session .position) q) _ _ (λ i. (forward, wind-greatest g s h forward _)) (λ i. (back, wind-greatest g s h back _))

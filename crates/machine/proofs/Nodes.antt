@@ -1,7 +1,8 @@
 -- What a node's kind and its place say: a node of a kind is there, and one that stands at a place is a part of its parent.
 use mathlib.Core.Path.{_≡_, refl, sym, _∙_, subst}
 use mathlib.Core.Bool.{Bool, true, false, cond}
-use Prim.Native.Nat.{ℕ}
+use Prim.Native.Nat.{ℕ, _≤_}
+use native.Mathlib.Omega.{arith}
 use lib.Dec.{eqb}
 use borrow.Author.Tests.{eqb-true}
 use Rattle.term.specs.Table.{Table, Kind, variable, abstraction, application, nothing, kindAt, Place, bodyOf, functionOf, argumentOf, nowhere, placeUnder, placeAt}
@@ -10,6 +11,10 @@ use Rattle.term.proofs.Facts.{NodeKind}
 
 pub is-node : (T : Table) → Facts T → (i : ℕ) (k : Kind) → kindAt T i ≡ k → NodeKind k → IsNode T i
 is-node T F i k e h = F .only-nodes i (λ z. subst NodeKind (sym e ∙ z) h)
+
+-- a variable's word is a node's, and no node is 0
+pub not-zero : (T : Table) → Facts T → (v : ℕ) → kindAt T v ≡ variable → v ≡ 0 → ⊥
+not-zero T F v k z = let from-one : 1 ≤ v = is-node T F v variable k tt .from-one in omega arith
 
 -- the parent that a place names
 abbrev pub Placed : Table → ℕ → Place → Type 0

@@ -4,7 +4,9 @@ use mathlib.Core.Option.{some}
 use mathlib.Core.List.{List}
 use Prim.Native.Nat.{ℕ, _+_, _-_}
 use native.Mathlib.Numerals.{add-one}
+use lib.ListN.{length}
 use Rattle.term.specs.Table.{Table, tableIn}
+use Rattle.machine.specs.Entries.{tapeWords}
 use Rattle.machine.specs.Machine.{State, turned, step}
 use Rattle.machine.proofs.Reverse.{turn-good}
 use Rattle.calls.specs.Session.{Session}
@@ -65,14 +67,17 @@ module _ {w : List ℕ} {n : ℕ} {ls ts : List ℕ} {se anew : Declared.Session
   pub token-after : (way : Way) → sessionMeant anew ≡ sessionAfter way (sessionMeant se) → TokenAt w n anew ls ts (facing way s)
   token-after way e = token-as e (holds-after (h .enters .holds) way)
 
--- Turning about changes the length of no list, and no position.
+-- Turning about changes no tape, the length of no list, and no position.
+pub same-tape : (way : Way) (u : State) → facing way u .tape ≡ u .tape
+same-tape forward u = refl
+same-tape back u = refl
+
 pub log-facing : (way : Way) (u : State) → logSize (facing way u) ≡ logSize u
 log-facing forward u = refl
 log-facing back u = refl
 
 pub tape-facing : (way : Way) (u : State) → tapeSize (facing way u) ≡ tapeSize u
-tape-facing forward u = refl
-tape-facing back u = refl
+tape-facing way u = ap (λ t. length (tapeWords t)) (same-tape way u)
 
 pub position-facing : (way : Way) (se : Session) → facingSession way se .position ≡ se .position
 position-facing forward se = refl

@@ -12,6 +12,7 @@ use Rattle.term.proofs.Facts.{accepted-facts}
 use Rattle.machine.specs.Entries.{entry, Log, ε, _▸_, Item, bullet, held, Tape, itemWords, logWords, tapeWords}
 use Rattle.machine.specs.Machine.{State}
 use Rattle.machine.specs.Good.{TapeIn}
+use Rattle.machine.proofs.Nodes.{not-zero}
 use Rattle.calls.specs.Session.{Given}
 use Rattle.calls.specs.Top.{Which, shown, notShown, topOfLog, topOfTape, topBy, topOf, seen, sliceGiven}
 use Rattle.calls.proofs.Top.{alone-in, cut, cut-fits}
@@ -23,7 +24,7 @@ use Rattle.session.specs.declared.part.Place.{Place}
 use Rattle.session.proofs.Slices.{Lies}
 use Rattle.session.proofs.MovedWords.{lies-stacked, fewer, entry-found}
 use Rattle.session.proofs.Arrivals.{log-there, tape-there}
-use Rattle.session.proofs.TopWord.{word-at, not-zero}
+use Rattle.session.proofs.TopWord.{word-at}
 
 module _ (T : Table) (F : Facts T) (s : List ℕ) (len : ℕ) where
   no-item-place : Lies s len [] → placeIn T s len ≡ placed (notShown 10)

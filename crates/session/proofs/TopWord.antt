@@ -1,7 +1,7 @@
 -- What the word on top of the tape says: nothing there, a bullet, or an entry.
 use mathlib.Core.Path.{_≡_, refl, sym, ap, _∙_}
 use mathlib.Core.List.{List, [], _∷_, _++_}
-use Prim.Native.Nat.{ℕ, _-_, _≤_}
+use Prim.Native.Nat.{ℕ, _-_}
 use native.Mathlib.Omega.{arith}
 use lib.ListN.{length, getD}
 use Rattle.term.specs.Table.{Table, tableIn, variable, kindAt}
@@ -10,7 +10,7 @@ use Rattle.term.proofs.Facts.{accepted-facts}
 use Rattle.machine.specs.Entries.{entry, Log, bullet, held, Tape, logWords, tapeWords}
 use Rattle.machine.specs.Machine.{State}
 use Rattle.machine.specs.Good.{TapeIn}
-use Rattle.machine.proofs.Nodes.{is-node}
+use Rattle.machine.proofs.Nodes.{not-zero}
 use Rattle.session.specs.Steps.{TokenAt}
 use Rattle.session.specs.declared.Session as Declared
 use Rattle.session.proofs.Slices.{Lies, top-word}
@@ -22,10 +22,6 @@ word-at ts m v ws p =
     let fits = p .fits in
     let below : m - 1 ≡ length ws = omega arith in
     (λ i. getD (p .words i) (below i) 0) ∙ top-word (length ts) v ws (omega arith)
-
--- "A bullet is the word 0", and no variable is.
-pub not-zero : (T : Table) → Facts T → (v : ℕ) → kindAt T v ≡ variable → v ≡ 0 → ⊥
-not-zero T F v k z = let from-one : 1 ≤ v = is-node T F v variable k tt .from-one in omega arith
 
 no-item : (ts : List ℕ) (m : ℕ) (t : Tape) → Lies ts m (tapeWords t) → m ≡ 0 → t ≡ []
 no-item ts m [] p z = refl

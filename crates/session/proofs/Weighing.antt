@@ -2,18 +2,18 @@
 use mathlib.Core.Path.{_≡_, refl, sym, ap, ap₂, _∙_, subst}
 use mathlib.Core.Option.{some, Option·some-injective}
 use mathlib.Core.List.{List, _∷_}
-use Prim.Native.Nat.{ℕ, zero, suc, _+_, _-_, _*_, _≤_, _<_}
+use Prim.Native.Nat.{ℕ, suc, _+_, _-_, _*_, _≤_, _<_}
 use native.Mathlib.Numerals.{add-one}
 use native.Mathlib.Omega.{arith}
 use lib.ListN.{length, drop, getD, drop-of-length-le}
 use Rattle.term.specs.Table.{Table, tableIn}
 use Rattle.machine.specs.Machine.{State}
 use Rattle.calls.specs.Session.{Session}
-use Rattle.calls.specs.Stops.{Way, forward, back, Moment, moment, logSize, tapeSize, nextBy}
+use Rattle.calls.specs.Stops.{Way, Moment, moment, logSize, tapeSize, nextBy}
 use Rattle.calls.specs.Digits.{digits}
 use Rattle.calls.specs.Weight.{bullets, weight, zeroWords}
 use Rattle.calls.specs.Calls.{longest}
-use Rattle.calls.proofs.Weight.{tape-words, all-words, weight-by-words, light}
+use Rattle.calls.proofs.Weight.{other-word, tape-words, all-words, weight-by-words, light}
 use Rattle.session.specs.Steps.{TokenAt}
 use Rattle.session.specs.Rules.{RuleIs}
 use Rattle.session.specs.Passes.{facing}
@@ -22,14 +22,10 @@ use Rattle.session.specs.declared.Session as Declared
 use Rattle.session.specs.declared.choice.Rule.{Rule}
 use Rattle.session.specs.declared.choice.Rule.the-variants.{One, Two, Three, Four, Five, Six, Seven, Eight}
 use Rattle.session.proofs.Words.{next-word}
-use Rattle.session.proofs.Facing.{next-facing}
+use Rattle.session.proofs.Facing.{same-tape, next-facing}
 use Rattle.session.proofs.Passes.{rule-steps}
 
 -- ---- word by word from the low end of a slice
-
-other-word : (v : ℕ) (ws : List ℕ) → (v ≡ 0 → ⊥) → zeroWords (v ∷ ws) ≡ zeroWords ws
-other-word zero ws z = absurd (z refl)
-other-word (suc v) ws z = refl
 
 module _ (s : List ℕ) (i : ℕ) where
   pub bullet-next : i < length s → getD s i 0 ≡ 0 → zeroWords (drop i s) ≡ suc (zeroWords (drop (i + 1) s))
@@ -67,22 +63,20 @@ module _ (T : Table) (s : State) where
   rule-countable (Seven j) f l = l
   rule-countable (Eight j) f l = tt
 
--- turning about leaves the tape as it is
-tape-kept : (way : Way) (s : State) → onTape (facing way s) ≡ onTape s
-tape-kept forward s = refl
-tape-kept back s = refl
+bullets-facing : (way : Way) (s : State) → onTape (facing way s) ≡ onTape s
+bullets-facing way s = ap bullets (same-tape way s)
 
 module _ (way : Way) (T : Table) (s : State) (rule : Rule) (f : RuleIs T (facing way s) rule) where
   pub pass-counted : (se : Session) (m : Moment) → nextBy way T (moment s (se .position)) ≡ some m → onTape (m .state) ≡ bulletsAfter rule (onTape s)
   pass-counted se m e =
       let (u, steps) = rule-steps T (facing way s) rule f in
       ap (λ x. onTape (x .state)) (Option·some-injective m _ (sym e ∙ next-facing way T s u se steps))
-      ∙ tape-kept way u
+      ∙ bullets-facing way u
       ∙ rule-counted T (facing way s) rule f
-      ∙ ap (bulletsAfter rule) (tape-kept way s)
+      ∙ ap (bulletsAfter rule) (bullets-facing way s)
 
   pub pass-countable : onTape s ≤ longest → HasCount rule (onTape s)
-  pass-countable l = subst (HasCount rule) (tape-kept way s) (rule-countable T (facing way s) rule f (rw (tape-kept way s) l))
+  pass-countable l = subst (HasCount rule) (bullets-facing way s) (rule-countable T (facing way s) rule f (rw (bullets-facing way s) l))
 
 -- ---- the weight
 
