@@ -8,7 +8,8 @@ use Rattle.term.specs.Term.{Term, var, lam, app, size, Closed}
 use Rattle.term.specs.Table.{Table, tableIn, arity, Kind, variable, abstraction, application, nothing, kindOf, kindAt, bodyOf, functionOf, argumentOf, placeAt}
 use Rattle.term.specs.Accepted.{Accepted}
 use Rattle.term.specs.Facts.{Facts}
-use Rattle.term.proofs.Rows.{RowsIn, root-level, table-stands}
+use Rattle.term.specs.Walk.{RowsIn}
+use Rattle.term.proofs.Rows.{root-level, table-stands}
 use Rattle.term.proofs.Facts.{accepted-facts}
 use Rattle.term.proofs.Accepted.{term-size}
 use Rattle.published.specs.Figure.{Context, ⟨·⟩, lambda, left, right, level, _⟨_⟩, _⟪_⟫, binders, boundAbove}

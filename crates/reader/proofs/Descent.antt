@@ -8,6 +8,7 @@ use native.Mathlib.Numerals.{add-one}
 use native.Mathlib.Omega.{arith}
 use lib.ListN.{length, set, replicate, length-append, length-replicate}
 use lib.Seq.{sets}
+use Rattle.term.proofs.Stores.{run-on}
 use Rattle.text.specs.Bytes.{lambda, dot, opening, closing}
 use Rattle.text.specs.Tokens.{Name, Token}
 use Rattle.text.specs.Grammar.{Phrase, abstraction, atoms, Atoms, no-more, _and_, named, bracketed}
@@ -18,7 +19,6 @@ use Rattle.reader.specs.Answers.{phraseFrom, atomsFrom, atomFrom, abstra
 use Rattle.reader.specs.declared.grammar.Got.{Got}
 use Rattle.reader.specs.declared.grammar.Got.the-variants.{Read, Not}
 use Rattle.reader.proofs.Unrolled.{phrase-from, atoms-from, atom-from, asPhrase, application-from}
-use Rattle.reader.proofs.Moved.{run-on}
 use Rattle.reader.proofs.Coding.{applied-code, around-kept, body, around-body, body-kept}
 
 -- Atoms were read up to p, k of them, and their codes stand in a row in front of word m.

@@ -13,8 +13,9 @@ use Rattle.term.specs.Accepted.{mostNodes}
 use Rattle.term.specs.Walk.{bindersIn}
 use Rattle.term.proofs.Rows.{rows-length}
 use Rattle.term.proofs.Scope.{binders-under, binders-push}
+use Rattle.term.proofs.Stores.{run-on}
 use Rattle.reader.specs.Layout.{Layable, Laid, RowsLaid, Whole}
-use Rattle.reader.proofs.Moved.{run-on, set-sets-before}
+use Rattle.reader.proofs.Moved.{set-sets-before}
 use Rattle.reader.proofs.Parts.{layable-as, body-layable, Parts, parts-layable, index-layable}
 
 -- a run of stores before another, made after it

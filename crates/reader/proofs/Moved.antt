@@ -1,22 +1,12 @@
--- Words written in a run, one after another, and a run moved up to make room for marks in front of it.
+-- Words written in a run, and a run moved up to make room for marks in front of it.
 use Prim.Native.Nat.{ℕ, zero, suc, _+_, _≤_, _<_}
-use native.Mathlib.Nat.{add-zero}
 use native.Mathlib.Numerals.{add-one}
 use native.Mathlib.Omega.{arith}
 use mathlib.Core.Path.{_≡_, refl, sym, ap, _∙_}
 use mathlib.Core.List.{List, [], _∷_, _++_, append-nil, append-assoc}
 use lib.ListN.{length, getD, set, take, drop, replicate, length-append, length-replicate}
 use lib.Seq.{sets, sets-eq, length-sets, slice, slice-cons, slice-empty, take-at, drop-at, length-take-le, take-set-le, drop-set-lt, getD-set-other, set-comm}
-
-pub sets-append : (o : List ℕ) (i : ℕ) (a b : List ℕ) → sets o i (a ++ b) ≡ sets (sets o i a) (i + length a) b
-sets-append o i [] b = rw add-zero
-sets-append o i (x ∷ a) b =
-    let e : suc i + length a ≡ i + suc (length a) = omega arith in
-    sets-append (set o i x) (suc i) a b ∙ ap (λ (k : ℕ). sets (sets (set o i x) (suc i) a) k b) e
-
--- one run after another
-pub run-on : (o o₁ o₂ : List ℕ) (i m : ℕ) (a b : List ℕ) → o₁ ≡ sets o i a → m ≡ i + length a → o₂ ≡ sets o₁ m b → o₂ ≡ sets o i (a ++ b)
-run-on o o₁ o₂ i m a b e l e′ = e′ ∙ rw (e, l) (sym (sets-append o i a b))
+use Rattle.term.proofs.Stores.{sets-append}
 
 pub slide : (n : ℕ) (x : ℕ) (xs : List ℕ) → replicate n x ++ x ∷ xs ≡ x ∷ (replicate n x ++ xs)
 slide zero x xs = refl

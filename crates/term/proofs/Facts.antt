@@ -13,8 +13,8 @@ use Rattle.term.specs.Term.{Term, var, lam, app, size, ClosedUnder}
 use Rattle.term.specs.Table.{Table, tableIn, Kind, variable, abstraction, application, nothing, kindOf, kindAt, bodyOf, functionOf, argumentOf, nowhere, placeUnder, placeAt}
 use Rattle.term.specs.Accepted.{Accepted}
 use Rattle.term.specs.Facts.{IsNode, Stands, Below, as-body, under-body, under-function, under-argument, Bound, Facts}
-use Rattle.term.specs.Walk.{Row}
-use Rattle.term.proofs.Rows.{RowsIn, root-parent, root-level, size-positive, table-stands}
+use Rattle.term.specs.Walk.{Row, RowsIn}
+use Rattle.term.proofs.Rows.{root-parent, root-level, size-positive, table-stands}
 use Rattle.term.proofs.Table.{nodes-are, row-before, kind-beyond, kind-before}
 use Rattle.term.proofs.Accepted.{term-size}
 

@@ -13,9 +13,9 @@ use Rattle.term.specs.Choice.{_>>=_}
 use Rattle.term.specs.Term.{Term, var, lam, app, size, ClosedUnder}
 use Rattle.term.specs.Table.{Table, kindOf, kindAt}
 use Rattle.term.specs.Accepted.{Part, part, binderIndex, partBy, partAt}
-use Rattle.term.specs.Walk.{Row}
+use Rattle.term.specs.Walk.{Row, RowsIn}
 use Rattle.term.proofs.Choice.{both, each, passed, guarded, chained}
-use Rattle.term.proofs.Rows.{RowsIn, size-positive}
+use Rattle.term.proofs.Rows.{size-positive}
 use Rattle.term.proofs.Scope.{Falling, falling-higher, index-found, index-only}
 
 module _ (T : Table) (d : ℕ) (bs : List ℕ) (i p v : ℕ) where

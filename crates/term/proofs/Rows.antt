@@ -7,14 +7,8 @@ use native.Mathlib.Omega.{arith}
 use lib.ListN.{length, getD, take, drop, length-append, length-take, length-drop}
 use lib.Seq.{getD-append-add, getD-take, getD-drop, take-add, drop-drop, take-all, length-take-le}
 use Rattle.term.specs.Term.{Term, var, lam, app, size}
-use Rattle.term.specs.Walk.{Row}
+use Rattle.term.specs.Walk.{Row, RowsIn}
 use Rattle.term.specs.Table.{row, rowsOf, tableOf, Table, wordAt, tableIn}
-
--- The rows of a term stand in a table: its root is node i with parent p and level v, and bs are the binders around it.
-abbrev pub RowsIn : Table → Term → List ℕ → ℕ → ℕ → ℕ → Type 0
-RowsIn T (var x) bs i p v = Row T i 1 (getD bs x 0) 0 p v
-RowsIn T (lam b) bs i p v = Row T i 2 (suc i) 0 p v × RowsIn T b (i ∷ bs) (suc i) i v
-RowsIn T (app f a) bs i p v = Row T i 3 (suc i) (suc i + size f) p v × RowsIn T f bs (suc i) i v × RowsIn T a bs (suc i + size f) i (suc v)
 
 -- The root of a part, as far as the part is not looked at.
 module _ (T : Table) where

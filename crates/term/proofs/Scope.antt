@@ -24,7 +24,7 @@ pub falling-higher : (m k : ℕ) (bs : List ℕ) → m ≤ k → Falling m bs �
 falling-higher m k [] e f = tt
 falling-higher m k (b ∷ bs) e f = ((let g : b < m = f .0 in omega arith), f .1)
 
-binder-before : (m : ℕ) (bs : List ℕ) (x : ℕ) → Falling m bs → x < length bs → getD bs x 0 < m
+pub binder-before : (m : ℕ) (bs : List ℕ) (x : ℕ) → Falling m bs → x < length bs → getD bs x 0 < m
 binder-before m [] x f h = absurd (not-suc-le-zero h)
 binder-before m (b ∷ bs) zero f h = f .0
 binder-before m (b ∷ bs) (suc x) f h = let g : b < m = f .0 in omega (arith, binder-before b bs x (f .1) (le-of-suc-le-suc h))

@@ -13,9 +13,9 @@ use Rattle.term.specs.Choice.{_>>=_}
 use Rattle.term.specs.Term.{Term, var, lam, app}
 use Rattle.term.specs.Table.{Table, tableIn}
 use Rattle.term.specs.Accepted.{mostNodes, Part, part, partAt, isWhole, accepted}
-use Rattle.term.specs.Walk.{Row, RootIs, bindersIn, PartEnds, PartAnswer, PartWalked}
+use Rattle.term.specs.Walk.{Row, RowsIn, RootIs, bindersIn, PartEnds, PartAnswer, PartWalked}
 use Rattle.term.proofs.Table.{nodes-are}
-use Rattle.term.proofs.Rows.{RowsIn, root-parent, root-level, root-left, root-right, root-kind}
+use Rattle.term.proofs.Rows.{root-parent, root-level, root-left, root-right, root-kind}
 use Rattle.term.proofs.Choice.{passed, failed, never}
 use Rattle.term.proofs.Reading.{part-variable, part-abstraction, argument, part-application, reads-only}
 use Rattle.term.proofs.Scope.{binders-push, isAround, around-index, around-none}
