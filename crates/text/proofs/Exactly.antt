@@ -21,7 +21,7 @@ use Rattle.text.specs.Exactly.{NoForeign, GoodNames, Spelled, Means, Acc
 use Rattle.text.proofs.Parse.{parse-derives, parse-none, one-tree}
 use Rattle.text.proofs.Binding.{nameless-exactly, nameless-closed, unbound}
 
-neither : (s t : Bool) → (s || t) ≡ false → (s ≡ false) × (t ≡ false)
+pub neither : (s t : Bool) → (s || t) ≡ false → (s ≡ false) × (t ≡ false)
 neither false t e = (refl, e)
 neither true t e = (e, cc)
 

@@ -1,4 +1,4 @@
--- The theorems of the text of a term: its tokens, its grammar, its names, and what the reader answers.
+-- The theorems of the text of a term: its tokens, its grammar, its names, and what the reader and the writer answer.
 pub mod Each
 pub mod Tokens
 pub mod Spelt
@@ -8,3 +8,9 @@ pub mod Binding
 pub mod Size
 pub mod Exactly
 pub mod Accepted
+pub mod Example
+pub mod Written
+pub mod Names
+pub mod Fewest
+pub mod Writing
+pub mod ReadBack

@@ -5,3 +5,6 @@ pub mod Parse
 pub mod Binding
 pub mod Reading
 pub mod Exactly
+pub mod Written
+pub mod Writing
+pub mod ReadBack

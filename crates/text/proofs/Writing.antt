@@ -1,0 +1,104 @@
+-- The writer's answers are those that specs/ReadBack.antt says in words.
+use mathlib.Core.Path.{_≡_, refl, sym, ap, _∙_, subst, subst⁻¹}
+use mathlib.Core.Logic.{_↔_}
+use mathlib.Core.Bool.{Bool, true, false, false≢true}
+use mathlib.Core.List.{List}
+use Prim.Native.Nat.{ℕ}
+use native.Mathlib.Omega.{arith}
+use lib.ListN.{length}
+use lib.Dec.{ltb}
+use borrow.Author.Tests.{ltb-false, le-ltb}
+use Rattle.term.specs.Accepted.{Accepted, accepted}
+use Rattle.term.proofs.Accepted.{read-whole, accepts-all, accepts-only, one-term}
+use Rattle.text.specs.Reading.{mostBytes}
+use Rattle.text.specs.Written.{textOf}
+use Rattle.text.specs.Writing.{Write, partText, tableText, unfit, writerNumber, refused, put, writeOf}
+use Rattle.text.specs.ReadBack.{Fits, Writes, WrittenExactly, SevenExactly, ElevenExactly, RefusedUnwritten}
+use Rattle.text.proofs.Exactly.{neither}
+
+pub table-text : (w : List ℕ) (n : ℕ) (A : Accepted w n) → tableText w n ≡ textOf (A .term)
+unfolding tableText
+table-text w n A = ap partText (read-whole w n A)
+
+-- What is answered, by the tests.
+module _ (w : List ℕ) (n : ℕ) (text : List ℕ) where
+  pub writes-seven : accepted w n ≡ false → writeOf w n text ≡ refused 7 text
+  unfolding writeOf writerNumber
+  writes-seven e = rw e
+
+  pub writes-none : (A : Accepted w n) → unfit (textOf (A .term)) text ≡ true → writeOf w n text ≡ refused 11 text
+  unfolding writeOf writerNumber
+  writes-none A e = rw (accepts-all w n A, table-text w n A, e)
+
+  pub writes-text : (A : Accepted w n) → unfit (textOf (A .term)) text ≡ false → writeOf w n text ≡ put (textOf (A .term)) text
+  unfolding writeOf writerNumber
+  writes-text A e = rw (accepts-all w n A, table-text w n A, e)
+
+unfitting : (s text : List ℕ) → unfit s text ≡ true → Fits s text → ⊥
+unfitting s text e h = false≢true (sym (rw (le-ltb mostBytes (length s) (h .0), le-ltb (length text) (length s) (h .1))) ∙ e)
+
+fitted : (s text : List ℕ) → unfit s text ≡ false → Fits s text
+fitted s text e =
+    let h = neither (ltb mostBytes (length s)) (ltb (length text) (length s)) e in
+    (ltb-false mostBytes (length s) (h .0), ltb-false (length text) (length s) (h .1))
+
+module _ (w : List ℕ) (n : ℕ) (text : List ℕ) where
+  -- what the writer finds, in the order of the tests, and what it then answers
+  pub data Finds : Write → Type 0 where
+    no-table : (Accepted w n → ⊥) → Finds (refused 7 text)
+    no-room : (A : Accepted w n) → (Fits (textOf (A .term)) text → ⊥) → Finds (refused 11 text)
+    fitting : (A : Accepted w n) → Fits (textOf (A .term)) text → Finds (put (textOf (A .term)) text)
+
+  by-room : (A : Accepted w n) (b : Bool) → unfit (textOf (A .term)) text ≡ b → Finds (writeOf w n text)
+  by-room A true e = subst⁻¹ Finds (writes-none w n text A e) (no-room A (unfitting (textOf (A .term)) text e))
+  by-room A false e = subst⁻¹ Finds (writes-text w n text A e) (fitting A (fitted (textOf (A .term)) text e))
+
+  by-table : (b : Bool) → accepted w n ≡ b → Finds (writeOf w n text)
+  by-table true e = let A = accepts-only w n e in by-room A _ refl
+  by-table false e = subst⁻¹ Finds (writes-seven w n text e) (no-table (λ A. false≢true (sym e ∙ accepts-all w n A)))
+
+  pub finds : Finds (writeOf w n text)
+  finds = by-table _ refl
+
+  seven : (r : Write) → Finds r → (r .refusal ≡ 7) ↔ (Accepted w n → ⊥)
+  seven r (no-table h) = (λ e. h, λ i. refl)
+  seven r (no-room A h) = (λ e. absurd (omega arith), λ i. absurd (i A))
+  seven r (fitting A h) = (λ e. absurd (omega arith), λ i. absurd (i A))
+
+  eleven : (r : Write) → Finds r → (r .refusal ≡ 11) ↔ ((A : Accepted w n) × (Fits (textOf (A .term)) text → ⊥))
+  eleven r (no-table h) = (λ e. absurd (omega arith), λ i. absurd (h (i .0)))
+  eleven r (no-room A h) = (λ e. (A, h), λ i. refl)
+  eleven r (fitting A h) = (λ e. absurd (omega arith), λ i. absurd (i .1 (subst (λ t. Fits (textOf t) text) (one-term w n A (i .0)) h)))
+
+  unwritten : (r : Write) → Finds r → (r .refusal ≡ 0 → ⊥) → (r .len ≡ 0) × (r .text ≡ text)
+  unwritten r (no-table h) i = (refl, refl)
+  unwritten r (no-room A h) i = (refl, refl)
+  unwritten r (fitting A h) i = absurd (i refl)
+
+  same-refusal : {r s : Write} → r ≡ s → r .refusal ≡ s .refusal
+  same-refusal e = ap (λ (a : Write). a .refusal) e
+
+  writes : (r : Write) (len : ℕ) (bytes : List ℕ) → Finds r → (r ≡ record { len = len; refusal = 0; text = bytes }) ↔ Writes w n text len bytes
+  writes r len bytes (no-table h) = (λ e. absurd (omega (arith, same-refusal e)), λ i. absurd (h (i .accepted-table)))
+  writes r len bytes (no-room A h) = (
+    λ e. absurd (omega (arith, same-refusal e)),
+    λ i. absurd (h (subst (λ t. Fits (textOf t) text) (one-term w n (i .accepted-table) A) (i .fits))),
+  )
+  writes r len bytes (fitting A h) = (
+    λ e.
+        let len-is : len ≡ length (textOf (A .term)) = sym (ap (λ (a : Write). a .len) e) in
+        record { accepted-table = A; fits = h; len-is = len-is; bytes-are = sym (ap (λ (a : Write). a .text) e) ∙ rw len-is },
+    λ i. rw (i .bytes-are, i .len-is, one-term w n (i .accepted-table) A),
+  )
+
+pub seven-exactly : SevenExactly
+seven-exactly w n text = seven w n text (writeOf w n text) (finds w n text)
+
+pub eleven-exactly : ElevenExactly
+eleven-exactly w n text = eleven w n text (writeOf w n text) (finds w n text)
+
+pub refused-unwritten : RefusedUnwritten
+refused-unwritten w n text = unwritten w n text (writeOf w n text) (finds w n text)
+
+pub written-exactly : WrittenExactly
+written-exactly w n text len bytes = writes w n text (writeOf w n text) len bytes (finds w n text)

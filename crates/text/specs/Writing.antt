@@ -1,0 +1,49 @@
+-- What a call of the writer answers, and what it leaves in the lent bytes: numbers 7 and 11 and the text (document 02, change 3).
+use mathlib.Core.Bool.{Bool, not, _||_}
+use mathlib.Core.Option.{Option, none, some}
+use mathlib.Core.List.{List, [], _∷_, _++_}
+use Prim.Native.Nat.{ℕ}
+use lib.ListN.{length, drop}
+use lib.Dec.{ltb}
+use Rattle.term.specs.Choice.{_⇒_, first}
+use Rattle.term.specs.Table.{tableIn}
+use Rattle.term.specs.Accepted.{Part, partAt, accepted}
+use Rattle.text.specs.Reading.{mostBytes}
+use Rattle.text.specs.Written.{textOf}
+
+-- the answer, and the lent bytes after the call
+pub record Write : Type 0 where
+  pub len : ℕ
+  pub refusal : ℕ  -- 0 for none
+  pub text : List ℕ
+
+-- the text of the term that a table is read as; nothing where it is read as none, which number 7 has refused before its text matters
+abbrev pub partText : Option Part → List ℕ
+partText none = []
+partText (some q) = textOf (q .term)
+
+unfoldable pub tableText : List ℕ → ℕ → List ℕ
+tableText w n = partText (partAt n (tableIn w n) [] 1 0 0)
+
+-- "over 3,000 bytes or over the lent buffer"
+abbrev pub unfit : List ℕ → List ℕ → Bool
+unfit s text = ltb mostBytes (length s) || ltb (length text) (length s)
+
+-- "Turned away: 11, after 7"
+unfoldable pub writerNumber : List ℕ → ℕ → List ℕ → Option ℕ
+writerNumber w n text = first ((not (accepted w n) ⇒ 7) ∷ (unfit (tableText w n) text ⇒ 11) ∷ [])
+
+-- "Any number that a later call adds to its answer is 0 in a refusal", and no lent byte differs.
+abbrev pub refused : ℕ → List ℕ → Write
+refused k text = record { len = 0; refusal = k; text = text }
+
+-- "The call answers its length." "Lent words or bytes that a call is not said to write keep their values."
+abbrev pub put : List ℕ → List ℕ → Write
+put s text = record { len = length s; refusal = 0; text = s ++ drop (length s) text }
+
+abbrev pub answer : Option ℕ → List ℕ → List ℕ → Write
+answer (some k) s text = refused k text
+answer none s text = put s text
+
+unfoldable pub writeOf : List ℕ → ℕ → List ℕ → Write
+writeOf w n text = answer (writerNumber w n text) (tableText w n) text
