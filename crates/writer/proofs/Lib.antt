@@ -1,0 +1,4 @@
+-- The laws that the proofs of the writer's functions cite.
+pub mod Putting
+pub mod Parts
+pub mod Whole

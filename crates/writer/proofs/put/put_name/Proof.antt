@@ -1,0 +1,13 @@
+-- `put_name` puts v, and then the digits of the node.
+use borrow.Author.Needs.{needs}
+use Rattle.writer.proofs.Putting.{put-then, digits-put}
+use Rattle.writer.proofs.put.put_name.Statement.{statement}
+use Rattle.writer.proofs.put.put_name.Tie as tie
+
+returns : tie.Need-returns
+returns c =
+    let after-byte = c .before .before .before .before .before .before in
+    put-then (after-byte .put-byte .ensures) (digits-put _ _ _ _ _ (c .before .before .put .ensures))
+
+pub put-name-spec : {M : Type 1} → statement M
+put-name-spec = tie.close (tie.spec (λ c κs. search needs) (λ c κs. search needs) (λ c. search needs) (λ c. search needs) returns)
