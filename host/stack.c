@@ -11,7 +11,7 @@
 
 enum { STACK = 8 << 20, PAINT = 0xA5, TABLE = 5 * YILDREUZ_MOST_NODES };
 
-static uint8_t text[YILDREUZ_MOST_BYTES];
+static uint8_t text[YILDREUZ_MOST_BYTES], written[YILDREUZ_MOST_BYTES];
 static size_t text_len;
 static uint32_t table[TABLE], log_words[YILDREUZ_LONGEST], tape_words[YILDREUZ_LONGEST];
 static uint32_t n;
@@ -21,6 +21,7 @@ static yildreuz_session session;
 
 static void *nothing(void *unused) { return unused; }
 static void *reads(void *unused) { n = yildreuz_read(text, text_len, table, TABLE).n; return unused; }
+static void *writes(void *unused) { yildreuz_write(table, TABLE, n, written, sizeof written); return unused; }
 static void *opens(void *unused) { session = yildreuz_open(table, TABLE, n, ALL_SLICES).session; return unused; }
 static void *forward(void *unused) { session = yildreuz_forward(table, TABLE, n, session, ALL_SLICES, 20000).session; return unused; }
 static void *back(void *unused) { session = yildreuz_back(table, TABLE, n, session, ALL_SLICES, 10000).session; return unused; }
@@ -77,6 +78,7 @@ static void measure_reading(const char *on, const char *head, const char *middle
 
 static void measure_calls(const char *on)
 {
+    measure("write", on, writes, YILDREUZ_CALL_STACK);
     measure("open", on, opens, YILDREUZ_CALL_STACK);
     measure("forward", on, forward, YILDREUZ_CALL_STACK);
     measure("back", on, back, YILDREUZ_CALL_STACK);

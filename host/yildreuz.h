@@ -1,6 +1,6 @@
-/* Yildreuz for C and C++: reads a closed lambda-term, opens a session on it, moves a token over the term, forward, back
-   or to a position, and points at the newest entry that the token carries. Link libyildreuz.a (x86-64 Linux), which needs
-   memset of the C library and nothing else.
+/* Yildreuz for C and C++: reads a closed lambda-term and writes it back as text, opens a session on it, moves a token over
+   the term, forward, back or to a position, and points at the newest entry that the token carries. Link libyildreuz.a
+   (x86-64 Linux), which needs memset of the C library and nothing else.
 
    Who owns what. Every byte and word is the caller's. A call borrows text, table, log and tape while it runs: it keeps
    no pointer, allocates nothing, and has no state of its own, so calls that write different slices may run at the same
@@ -23,8 +23,9 @@
      4  it is not a term                              9  the session, log and tape hold no state of the machine, or
      5  it has a name without a binder                   the direction is neither 0 nor 1
                                                      10  the chosen list is empty, or none is chosen
-   The numbers are tested in their order: 1 to 6 by read, 7 and 8 by open, 7 to 9 by forward, back and go_to, and 7 to 10
-   by top.
+                                                     11  the term's text has more than 3,000 bytes, or more than are lent
+   The numbers are tested in their order: 1 to 6 by read, 7 and 8 by open, 7 to 9 by forward, back and go_to, 7 to 10 by
+   top, and 7 and 11 by write.
 
    What holds after every list of calls. Open a session on a table that was read, and hand each call of forward, back and
    go_to the session, log and tape that the one before left: then these are, word for word, those of the machine after as
@@ -47,7 +48,7 @@ extern "C" {
 #endif
 
 enum {
-    YILDREUZ_MOST_BYTES = 3000,         /* of a text */
+    YILDREUZ_MOST_BYTES = 3000,         /* of a text, read or written */
     YILDREUZ_MOST_NODES = 3000,         /* of a term; its table has 5 words for each node */
     YILDREUZ_LONGEST = 16384,           /* words of a log or a tape slice; 0 is permitted */
     YILDREUZ_READ_STACK = 768 * 1024,   /* bytes of stack that yildreuz_read needs at most */
@@ -77,6 +78,12 @@ typedef struct yildreuz_reading {
     uint32_t n;       /* the term's nodes, which the other calls take with the table; 0 in a refusal */
     uint32_t refusal; /* its number, 1 to 6, or 0 for none */
 } yildreuz_reading;
+
+/* What write answers. */
+typedef struct yildreuz_written {
+    uint32_t len;     /* the bytes of the text, from the first lent on; 0 in a refusal */
+    uint32_t refusal; /* its number, 7 or 11, or 0 for none */
+} yildreuz_written;
 
 /* Where the token stands. The caller keeps it, with the table, the log and the tape it belongs to, from call to call. */
 typedef struct yildreuz_session {
@@ -118,6 +125,15 @@ typedef struct yildreuz_part {
    Needs YILDREUZ_READ_STACK bytes of stack.
    The caller promises: the table does not overlap the text; and what the top of this file says of pointers. */
 yildreuz_reading yildreuz_read(const uint8_t *text, size_t text_len, uint32_t *table, size_t table_len);
+
+/* Writes the text of the term whose table it is. A binder is named v and its node's number, one space stands between
+   atoms, round brackets stand only where the grammar needs them, and neither a 0 nor a line feed ends it: (\x.x x)(\y.y)
+   is written (\v2.v2 v2) (\v6.v6). Reading that, into 5 x n words or more, gives the same table.
+   Borrows the table to read it, and text to write its first len bytes; the bytes after them stay.
+   Refuses with 7 or 11, and then every byte of text stays. There is no use in lending more than YILDREUZ_MOST_BYTES.
+   Needs YILDREUZ_CALL_STACK bytes of stack.
+   The caller promises: text does not overlap the table; and what the top of this file says of pointers. */
+yildreuz_written yildreuz_write(const uint32_t *table, size_t table_len, uint32_t n, uint8_t *text, size_t text_len);
 
 /* Opens a session at the start of the walk.
    Borrows the table to read it, and log and tape to write 0 into every word.

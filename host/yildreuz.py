@@ -14,11 +14,13 @@ and used so:
     part, refusal = lib.top(table, n, out.session, log, tape, yildreuz.LOG)
     newest = memoryview(log)[part.offset:part.offset + part.len]    # the newest log entry, no word of it copied: 7, 5
     home = lib.back(table, n, out.session, log, tape, out.steps)
+    text = bytearray(yildreuz.MOST_BYTES)
+    written = lib.write(table, n, text)    # text[:written.len] is now rb'(\\v2.v2 v2) (\\v6.v6)'
 
-Table, log and tape are the caller's: `words(k)`, or any writable buffer of 32-bit words such as an array('I') or a memoryview of a part of one. A call
-borrows them while it runs and writes into them in place. Sessions and answers are tuples of numbers. What the answers mean, what each number refuses and
-what a refusal leaves stands in yildreuz.h. What that header leaves to the caller to promise is tested here: a buffer of other items, slices that overlap, or a
-number that is no 32-bit word raise an error before the call.
+Table, log and tape are the caller's: `words(k)`, or any writable buffer of 32-bit words such as an array('I') or a memoryview of a part of one. So is what
+a text is written into: a bytearray, or any other writable buffer of bytes. A call borrows them while it runs and writes into them in place. Sessions and
+answers are tuples of numbers. What the answers mean, what each number refuses and what a refusal leaves stands in yildreuz.h. What that header leaves to the
+caller to promise is tested here: a buffer of other items, slices that overlap, or a number that is no 32-bit word raise an error before the call.
 """
 import ctypes
 from array import array
@@ -35,6 +37,11 @@ GREATEST = 4294967295  # of a position, a count and any other word
 
 class Reading(NamedTuple):
     n: int
+    refusal: int
+
+
+class Written(NamedTuple):
+    len: int
     refusal: int
 
 
@@ -83,6 +90,7 @@ def _struct(shape, **inner):
 
 
 _Reading = _struct(Reading)
+_Written = _struct(Written)
 _Session = _struct(Session)
 _Opening = _struct(Opening, session=_Session)
 _Outcome = _struct(Outcome, session=_Session)
@@ -103,20 +111,20 @@ def _word(number):
 
 # Pointer and length of what is lent: what yildreuz.h leaves to the caller's promise is tested here.
 
-def _lent(*buffers):
+def _lent(*slices, texts=()):
+    """Slices are of words, texts of bytes; in this order."""
     arguments, ends = [], []
-    for buffer in buffers:
-        view = memoryview(buffer)
-        if view.ndim != 1 or view.format not in ('I', '<I', '=I') or view.readonly or not view.c_contiguous:
-            raise TypeError('a slice is a writable buffer of 32-bit words')
-        # none may be NULL, so a slice without words is lent as a spare one
-        array_type = ctypes.c_uint32 * len(view)
-        lent = array_type.from_buffer(view) if len(view) else (ctypes.c_uint32 * 1)()
+    for buffer, item, code in [(x, ctypes.c_uint32, 'I') for x in slices] + [(x, ctypes.c_uint8, 'B') for x in texts]:
+        view, size = memoryview(buffer), ctypes.sizeof(item)
+        if view.ndim != 1 or view.format not in (code, '<' + code, '=' + code) or view.readonly or not view.c_contiguous:
+            raise TypeError('a slice is a writable buffer of 32-bit words, and a text to be written one of bytes')
+        # none may be NULL, so what has no items is lent as a spare one
+        lent = (item * len(view)).from_buffer(view) if len(view) else (item * 1)()
         start = ctypes.addressof(lent)
-        if start % 4:
+        if start % size:
             raise TypeError('a slice of words is aligned as words are')
         arguments.append((lent, len(view)))
-        ends.append((start, start + 4 * len(view)))
+        ends.append((start, start + size * len(view)))
     ends.sort()
     if any(end > start for (_, end), (start, _) in zip(ends, ends[1:])):
         raise ValueError('lent slices overlap')
@@ -138,6 +146,7 @@ class Library:
         lib = ctypes.CDLL(str(path))
         slices = [_WORDS, _LEN, _WORDS, _LEN]
         self._read = self._call(lib.yildreuz_read, _Reading, [_BYTES, _LEN, _WORDS, _LEN])
+        self._write = self._call(lib.yildreuz_write, _Written, [_WORDS, _LEN, _WORD, _BYTES, _LEN])
         self._open = self._call(lib.yildreuz_open, _Opening, [_WORDS, _LEN, _WORD] + slices)
         winding = [_WORDS, _LEN, _WORD, _Session] + slices + [_WORD]
         self._forward = self._call(lib.yildreuz_forward, _Outcome, winding)
@@ -154,6 +163,11 @@ class Library:
         """Reads a closed term, given as bytes, into the table."""
         (table,) = _lent(table)
         return _told(Reading, self._read(*_lent_text(text), *table))
+
+    def write(self, table, n, text):
+        """Writes the text of a table's term into a buffer of bytes."""
+        table, text = _lent(table, texts=[text])
+        return _told(Written, self._write(*table, _word(n), *text))
 
     def open(self, table, n, log, tape):
         """Opens a session at the start of the walk, and zeroes log and tape."""

@@ -4,8 +4,9 @@
   tools/random_calls.py LIBRARY [CALLS [SEED]]
 
 Texts are closed terms, written with blanks and brackets that the grammar permits, and damaged ones; tables, slices and sessions are those that the calls
-left, and damaged ones. Every number of every answer is compared, every word of every lent slice, and the words that stand before and after it. At the end
-every stop and every refusal must have come up, from each call that gives it. First, what the wrapper itself must refuse.
+left, and damaged ones; terms are written into about as many bytes as their texts have. Every number of every answer is compared, every word or byte of what
+is lent, and those that stand before and after it. At the end every stop and every refusal must have come up, from each call that gives it. First, what the
+wrapper itself must refuse.
 """
 import pathlib
 import random
@@ -18,13 +19,14 @@ sys.path[:0] = [str(TOP / 'tools'), str(TOP / 'host')]
 import reference  # noqa: E402
 import yildreuz  # noqa: E402
 
-GUARD = 3  # words before and after each lent slice
+GUARD = 3  # words or bytes before and after what is lent
 FARTHEST = 200  # steps
 CODES = {name: code for code, name in enumerate(yildreuz.STOP_NAMES)}
 
 # what must have come up of each call by the end
 DUE = {
     'read': {'read'} | {'refused %d' % k for k in range(1, 7)},
+    'write': {'written', 'refused 7', 'refused 11', 'over 3,000 bytes'},
     'open': {'opened', 'refused 7', 'refused 8'},
     'forward': {'spent', 'answer', 'jam', 'far', 'log full', 'tape full', 'refused 7', 'refused 8', 'refused 9', 'no direction'},
     'back': {'spent', 'start', 'jam', 'log full', 'tape full', 'refused 7', 'refused 8', 'refused 9', 'no direction'},
@@ -34,19 +36,19 @@ DUE['go_to'] = (DUE['forward'] | DUE['back']) - {'start', 'far'}  # its count is
 
 
 class Lent:
-    """Words in the middle of others, which no call may change."""
+    """Words, or bytes, in the middle of others, which no call may change."""
 
-    def __init__(self, rng, values):
+    def __init__(self, rng, values, code='I'):
         self.size = len(values)
-        self.fence = [rng.getrandbits(32) for _ in range(2 * GUARD)]
-        self.all = array('I', self.fence[:GUARD] + list(values) + self.fence[GUARD:])
+        self.fence = [rng.getrandbits(8 * array(code).itemsize) for _ in range(2 * GUARD)]
+        self.all = array(code, self.fence[:GUARD] + list(values) + self.fence[GUARD:])
         self.part = memoryview(self.all)[GUARD:GUARD + self.size]
 
     def now(self):
-        words = self.all.tolist()
-        if words[:GUARD] + words[GUARD + self.size:] != self.fence:
-            raise AssertionError('a word outside a lent slice has changed')
-        return words[GUARD:GUARD + self.size]
+        items = self.all.tolist()
+        if items[:GUARD] + items[GUARD + self.size:] != self.fence:
+            raise AssertionError('a word or byte outside what is lent has changed')
+        return items[GUARD:GUARD + self.size]
 
 
 # ---- texts
@@ -83,10 +85,11 @@ def random_text(rng):
     kind = rng.random()
     if kind < 0.25:
         text = rng.choice(KNOWN)
-    elif kind < 0.97:
+    elif kind < 0.96:
         text = spelled(rng, random_tree(rng, rng.randint(1, 24), []), 'term')
     else:
-        text = rng.choice([b' ' * rng.choice([2999, 3000, 3001]), rb'\x.x' + b' x' * 1498, b'(' * 700, b''])
+        long = rng.choice([rb'\x.x' + b' x' * 998, rb'\x.\y.x' + b' x' * 997, rb'\x.x' + b' x' * 1498])  # 3,000, 3,001 and 4,500 bytes when written
+        text = rng.choice([b' ' * rng.choice([2999, 3000, 3001]), long, long, b'(' * 700, b''])
     if rng.random() < 0.25:
         text = bytearray(text)
         for _ in range(rng.randint(1, 2)):
@@ -170,9 +173,8 @@ class Comparison:
         if got != want:
             raise AssertionError('%s\n   got %s\n  want %s' % (given, got, want))
 
-    def read(self):
-        """Reads a random text; the table and n."""
-        text = random_text(self.rng)
+    def read(self, text):
+        """Reads a text; the table and n."""
         want = reference.read(text, 10 ** 9)[0]
         room = max(0, 5 * want + self.rng.choice([0, 0, 0, 1, 7, -1]))
         before = [self.rng.getrandbits(32) for _ in range(room)]
@@ -182,6 +184,21 @@ class Comparison:
         self.same((got, table.now()), (yildreuz.Reading(n, refusal), words + before[len(words):]), ('read', text, room))
         self.note('read', 'refused %d' % refusal if refusal else 'read')
         return table, n
+
+    def write(self, table, n):
+        """Writes a table's text; where it is written, reading it gives the table back."""
+        w, rows = table.now(), reference.accepted(table.now(), n)
+        most = len(reference.spelled(reference.named_tree(rows))) if rows else 9
+        room = self.rng.choice([most, most, most - 1, most + 1, most + self.rng.randint(2, 40), self.rng.randint(0, most), 0, 3000, 3500])
+        before = [self.rng.getrandbits(8) for _ in range(room)]
+        text = Lent(self.rng, before, 'B')
+        got = self.lib.write(table.part, n, text.part)
+        length, refusal, written = reference.write(w, n, room)
+        self.same((got, table.now(), text.now()), (yildreuz.Written(length, refusal), w, list(written) + before[length:]), ('write', w, n, room))
+        self.note('write', 'over 3,000 bytes' if 3000 < most <= room else 'refused %d' % refusal if refusal else 'written')
+        if refusal == 0:
+            self.same(reference.read(written, 5 * n), (n, 0, w[:5 * n]), ('read back', w, n))
+            self.read(written)
 
     def room(self):
         """How long a slice is: mostly enough, at times too short, and at times too long to be permitted."""
@@ -238,11 +255,14 @@ class Comparison:
     def walk(self):
         """A term, a session and some calls on it, damaged or not. What a damaged session or slice leads to is at times gone on with."""
         rng = self.rng
-        table, n = self.read()
+        table, n = self.read(random_text(rng))
         if n == 0 and rng.random() < 0.9:
             return
+        if rng.random() < 0.3:
+            self.write(Lent(rng, damaged(rng, table.now(), n)), rng.choice([n, n, n + 1, max(n, 1) - 1, 3001]))
         if rng.random() < 0.05:
             table, n = Lent(rng, damaged(rng, table.now(), n)), rng.choice([n, n, n + 1, max(n, 1) - 1, 3001])
+        self.write(table, n)
         s, log, tape = self.open(table, n)
         for _ in range(rng.randint(1, 30)):
             part = rng.random()
@@ -273,8 +293,8 @@ class Comparison:
 # ---- what the wrapper itself must refuse, before the call
 
 def refuses_misuse(lib):
-    """Buffers that are no slices of words, slices that overlap, and numbers that are no words: each is an error, and no word differs."""
-    table, log, tape = yildreuz.words(10), yildreuz.words(4), yildreuz.words(4)
+    """Buffers that are no slices of words or bytes, slices that overlap, and numbers that are no words: each is an error, and no word or byte differs."""
+    table, log, tape, text = yildreuz.words(10), yildreuz.words(4), yildreuz.words(4), bytearray(10)
     n = lib.read(rb'\x.x', table).n
     start = lib.open(table, n, log, tape).session
     shared = memoryview(yildreuz.words(8))
@@ -294,16 +314,25 @@ def refuses_misuse(lib):
         (OverflowError, lambda: lib.go_to(table, n, start._replace(node=yildreuz.GREATEST + 2), log, tape, 0)),
         (ValueError, lambda: lib.top(table, n, start, log, memoryview(log)[1:], yildreuz.LOG)),
         (OverflowError, lambda: lib.top(table, n, start, log, tape, -1)),
+        (TypeError, lambda: lib.write(table, n, bytes(10))),
+        (TypeError, lambda: lib.write(table, n, b'')),
+        (TypeError, lambda: lib.write(table, n, log)),
+        (TypeError, lambda: lib.write(table, n, array('b', bytes(10)))),
+        (TypeError, lambda: lib.write(table, n, memoryview(text)[::-1])),
+        (TypeError, lambda: lib.write(bytearray(40), n, text)),
+        (ValueError, lambda: lib.write(table, n, memoryview(table).cast('B'))),
+        (ValueError, lambda: lib.write(shared[2:4], n, memoryview(shared).cast('B')[15:])),
+        (OverflowError, lambda: lib.write(table, -1, text)),
     ]
-    before = [list(x) for x in (table, log, tape, shared)]
+    before = [list(x) for x in (table, log, tape, shared, text)]
     for number, (error, misuse) in enumerate(misuses):
         try:
             misuse()
         except error:
             continue
         raise AssertionError('misuse %d is not refused' % number)
-    if before != [list(x) for x in (table, log, tape, shared)]:
-        raise AssertionError('a misuse has changed a word')
+    if before != [list(x) for x in (table, log, tape, shared, text)]:
+        raise AssertionError('a misuse has changed a word or a byte')
 
 
 if __name__ == '__main__':

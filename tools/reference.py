@@ -1,5 +1,5 @@
 #!/usr/bin/env python3
-"""An independent reading of document 01, and of changes 1 and 2 of document 02, from which the expected outputs of the programs `cases` and `winder` are worked out.
+"""An independent reading of document 01, and of changes 1 to 3 of document 02, from which the expected outputs of the programs `cases` and `winder` are worked out.
 
   tools/reference.py cases < SCRIPT   what `cases` must print for a script of cases, as crates/cases/stdin (script.py)
   tools/reference.py winder < TERM    what `winder` must print for a term
@@ -231,7 +231,7 @@ def wind(m, s, position, count, log_room, tape_room, back):
 START = (1, 'd', [], [])
 
 
-# ---- sessions on any words
+# ---- tables of any words, and their texts
 
 def accepted(w, n):
     """Number 7 does not apply: the rows are those of the one term that their kinds and binders allow."""
@@ -269,6 +269,53 @@ def accepted(w, n):
             return None
     return table if at == n else None
 
+
+def named_tree(table):
+    """The tree of accepted rows, each binder named v and its node. A node's parts have greater numbers, so the last row comes first."""
+    trees = {}
+    for i in range(len(table), 0, -1):
+        kind, left, right = table[i - 1][:3]
+        if kind == 1:
+            trees[i] = ('var', b'v%d' % left)
+        elif kind == 2:
+            trees[i] = ('lam', b'v%d' % i, trees[left])
+        else:
+            trees[i] = ('app', trees[left], trees[right])
+    return trees[1]
+
+
+def spelled(tree):
+    """The text of a tree, iteratively: `work` has what is still to be put down, the next of it last, as bytes and trees."""
+    def bracketed(t, needed):
+        return [b'(', t, b')'] if needed else [t]
+
+    out, work = [], [tree]
+    while work:
+        t = work.pop()
+        if isinstance(t, bytes):
+            out.append(t)
+        elif t[0] == 'var':
+            out.append(t[1])
+        elif t[0] == 'lam':
+            work += [t[2], b'\\' + t[1] + b'.']
+        else:
+            f, a = t[1], t[2]
+            work += reversed(bracketed(f, f[0] == 'lam') + [b' '] + bracketed(a, a[0] != 'var'))
+    return b''.join(out)
+
+
+def write(w, n, room):
+    """The length, the number, and the bytes that are written (none where refused)."""
+    table = accepted(w, n)
+    if table is None:
+        return 0, 7, b''
+    text = spelled(named_tree(table))
+    if len(text) > 3000 or len(text) > room:
+        return 0, 11, b''
+    return len(text), 0, text
+
+
+# ---- sessions on any words
 
 def entries(m, ws, with_bullets):
     """The items of a list whose words, from the top, are ws; or None."""

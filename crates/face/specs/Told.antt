@@ -4,10 +4,12 @@ use mathlib.Core.List.{List}
 use Prim.Native.Nat.{ℕ}
 use Rattle.term.specs.Choice.{ifSome}
 use Rattle.text.specs.Reading.{Read}
+use Rattle.text.specs.Writing.{Write}
 use Rattle.calls.specs.Session.{Session, Outcome, Opening, Given}
 use Rattle.calls.specs.Calls.{lentNumber, callNumber}
 use Rattle.calls.specs.Top.{Which, Shown, notShown, topOf}
 use Rattle.face.specs.declared.HostReading.{HostReading}
+use Rattle.face.specs.declared.HostWritten.{HostWritten}
 use Rattle.face.specs.declared.HostSession.{HostSession}
 use Rattle.face.specs.declared.HostOpening.{HostOpening}
 use Rattle.face.specs.declared.HostOutcome.{HostOutcome}
@@ -16,6 +18,9 @@ use Rattle.face.specs.Numbers.{sessionNumbers, sessionIn, stopCode, stop
 
 abbrev pub readTold : Read → HostReading × List ℕ
 readTold r = (record { n = r .n; refusal = r .refusal }, r .table)
+
+abbrev pub writeTold : Write → HostWritten × List ℕ
+writeTold r = (record { len = r .len; refusal = r .refusal }, r .text)
 
 abbrev pub openTold : Opening → HostOpening × List ℕ × List ℕ
 openTold o = (record { session = sessionNumbers (o .session); refusal = o .refusal }, o .log, o .tape)

@@ -7,6 +7,13 @@ pub struct HostReading {
     pub refusal: u32,
 }
 
+// What the writer answers. Both are 0 but the refusal's number in a refusal, and a refusal of 0 is none.
+#[repr(C)]
+pub struct HostWritten {
+    pub len: u32,
+    pub refusal: u32,
+}
+
 // Direction: 0 is down, 1 is up.
 #[repr(C)]
 pub struct HostSession {

@@ -1,10 +1,11 @@
-// The reader and the calls on a session for a host in another language: host/yildreuz.h has the same structs and functions in C.
+// The reader, the writer and the calls on a session for a host in another language: host/yildreuz.h has the same structs and functions in C.
 ghost use mathlib.Core.Path.{_≡_};
 ghost use Rattle.text.specs.Reading.{readOf};
+ghost use Rattle.text.specs.Writing.{writeOf};
 ghost use Rattle.calls.specs.Calls.{openOf, forwardOf, backOf, goToOf};
 ghost use Rattle.calls.specs.Demand.{outcomeOf};
 ghost use Rattle.session.specs.Types.{outcomeMeant, lent};
-ghost use Rattle.face.specs.Told.{readTold, openTold, called, topCalled};
+ghost use Rattle.face.specs.Told.{readTold, writeTold, openTold, called, topCalled};
 ghost use Rattle.yildreuz.specs.Given.{moveMeant};
 
 mod numbers;
@@ -15,6 +16,7 @@ use face::HostOutcome;
 use face::HostPart;
 use face::HostReading;
 use face::HostSession;
+use face::HostWritten;
 use numbers::given_back;
 use numbers::made_with;
 use numbers::session_numbers;
@@ -34,6 +36,18 @@ pub extern "C" fn yildreuz_read(text: &[u8], table: &mut [u32]) -> HostReading
     let r = reader::read(text, table);
     HostReading {
         n: r.n,
+        refusal: r.refusal,
+    }
+}
+
+// The writer's answer, and the lent bytes as it leaves them.
+#[no_mangle]
+pub extern "C" fn yildreuz_write(table: &[u32], n: u32, text: &mut [u8]) -> HostWritten
+    ensures { λ r. ⌜ (r, now (text .exit)) ≡ writeTold (writeOf (now (table .entry)) n (now (text .entry))) ⌝ }
+{
+    let r = writer::write(table, n, text);
+    HostWritten {
+        len: r.len,
         refusal: r.refusal,
     }
 }
