@@ -1,9 +1,9 @@
-"""The script of cases (crates/cases/stdin, which says its commands) on reference.py's reading of document 01: what the program `cases` must print."""
+"""The script of cases (crates/cases/stdin, which says its commands) on reference.py's reading of documents 01 and 02: what the program `cases` must print."""
 from itertools import groupby
 
-from reference import GREATEST, START, Machine, Session, accepted, call, go_to, lay, open_session, read, top, wind, words
+from reference import GREATEST, START, Machine, Session, accepted, call, go_to, lay, open_session, read, top, wind, words, write
 
-LONGEST_SCRIPT, LONGEST_TEXT = 24575, 3001
+LONGEST_SCRIPT, LONGEST_TEXT, LONGEST_BUFFER = 24575, 3001, 3010
 
 
 class Wrong(Exception):
@@ -83,7 +83,19 @@ class Desk:
     def do_read(self):
         if len(self.text) > LONGEST_TEXT:
             raise Wrong
-        self.n, number, ws = read(self.text, self.table.given)
+        return self.laid_out(self.text)
+
+    def do_read_back(self):
+        return self.laid_out(write(self.table.part(), self.n, 3000)[2])
+
+    def do_write(self, size, byte):
+        if size > LONGEST_BUFFER or byte > 255:
+            raise Wrong
+        length, number, text = write(self.table.part(), self.n, size)
+        return ' len %d refusal %d text %s rest%s' % (length, number, text.decode(), shown([byte] * (size - length)))
+
+    def laid_out(self, text):
+        self.n, number, ws = read(text, self.table.given)
         self.table.words[:len(ws)] = ws
         return ' n %d refusal %d table%s' % (self.n, number, self.table.shown())
 
@@ -177,7 +189,7 @@ def plain_states(table, n, count, log_room, tape_room):
 SHAPES = {
     'text': (0, True), 'n': (1, False), 'down': (4, False), 'up': (4, False), 'tower': (1, False),
     'read': (0, True), 'accept': (0, True), 'open': (0, True), 'forward': (1, True), 'back': (1, True), 'go-to': (1, True),
-    'walk': (1, True), 'walk-back': (1, True), 'log-top': (0, True), 'tape-top': (0, True),
+    'walk': (1, True), 'walk-back': (1, True), 'log-top': (0, True), 'tape-top': (0, True), 'write': (2, True), 'read-back': (0, True),
 }
 SLICES = ('table', 'log', 'tape')
 for slice in SLICES:

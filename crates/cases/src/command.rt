@@ -16,6 +16,8 @@ pub(crate) enum Topic {
     Accept,
     Made,
     Top,
+    Write,
+    ReadBack,
 }
 
 // What concerns no slice.
@@ -70,7 +72,7 @@ pub(crate) fn row_of(line: &[u8]) -> usize {
           open 0 + forward 1 + back 1 + go-to 1 + walk 1 + walk-back 1 + \
           table 2 . set-table 2 . lend-table 1 . tower 1 . \
           log 2 . set-log 2 . lend-log 1 . tape 2 . set-tape 2 . lend-tape 1 . \
-          log-top 0 + tape-top 0 +",
+          log-top 0 + tape-top 0 + write 2 + read-back 0 +",
     )
 }
 
@@ -83,6 +85,8 @@ pub(crate) fn topic_of(row: usize) -> Topic {
         16..=18 => Topic::Log,
         19..=21 => Topic::Tape,
         22 | 23 => Topic::Top,
+        24 => Topic::Write,
+        25 => Topic::ReadBack,
         _ => Topic::Plain,
     }
 }

@@ -8,6 +8,7 @@ mod lent;
 mod moves;
 mod show;
 mod words;
+mod written;
 
 use command::Plain;
 use command::Topic;
@@ -35,6 +36,7 @@ use words::after_parts;
 use words::bytes_before;
 use words::bytes_through;
 use words::number_at;
+use written::write_made;
 
 fn least(a: usize, b: usize) -> usize
     ensures { λ r. ⌜ (r ≤ a) × (r ≤ b) ⌝ }
@@ -133,6 +135,34 @@ fn read_shown(script: &[u8], line: &[u8], d: Desk, table: &mut [u32]) -> Desk {
     with_nodes(d, n)
 }
 
+// Writes the text of the lent table, reads it into the same words, and shows the answer and the table. A refused text is empty.
+fn read_back_shown(line: &[u8], d: Desk, table: &mut [u32]) -> Desk {
+    let mut text = [0u8; 3000];
+    let k = least(d.table, table.len());
+    let r = writer::write(&table[0..k], d.n, &mut text);
+    let len = least(r.len as usize, 3000);
+    let n = read_lent(line, &text[0..len], table, d.table);
+    show_table(d, &table[..]);
+    with_nodes(d, n)
+}
+
+// Writes the text of the lent table into as many bytes as the line says, and shows the answer and the bytes; the desk stays as it was.
+fn write_shown(line: &[u8], d: Desk, table: &[u32]) -> Desk {
+    let size = number_at(line, 1);
+    let byte = number_at(line, 2);
+    if size <= 3010 {
+        if byte <= 255 {
+            let k = least(d.table, table.len());
+            show_name(line, 3);
+            write_made(&table[0..k], d.n, size as usize, byte as u8);
+            show(b"\n");
+            return d;
+        }
+    }
+    show_wrong(line);
+    d
+}
+
 fn accepted_lent(d: Desk, table: &[u32]) -> bool {
     let k = least(d.table, table.len());
     term::accepts(&table[0..k], d.n)
@@ -225,6 +255,8 @@ fn obey(
         Topic::Accept => accept_shown(line, d, &table[..]),
         Topic::Made => made_shown(line, row, d, &table[..], log, tape),
         Topic::Top => top_shown(line, row, d, &table[..], &log[..], &tape[..]),
+        Topic::Write => write_shown(line, d, &table[..]),
+        Topic::ReadBack => read_back_shown(line, d, table),
     }
 }
 
