@@ -5,12 +5,13 @@ use mathlib.Core.List.{List}
 use Prim.Native.Nat.{ℕ, zero, suc, _<_}
 use native.Mathlib.Omega.{arith}
 use Rattle.text.specs.Reading.{Read}
+use Rattle.text.specs.Writing.{Write}
 use Rattle.machine.specs.Machine.{Dir, down, up}
 use Rattle.calls.specs.Session.{Session, Stop, spent, jam, far, start, logFull, tapeFull, answer, refused, Opening, Outcome, Given}
 use Rattle.calls.specs.Top.{Which, log, tape}
 use Rattle.face.specs.declared.HostSession.{HostSession}
 use Rattle.face.specs.Numbers.{dirNumber, dirIn, sessionNumbers, sessionIn, stopCode, stopValue, whichNumber, whichIn}
-use Rattle.face.specs.Told.{readTold, openTold, outcomeTold, called}
+use Rattle.face.specs.Told.{readTold, writeTold, openTold, outcomeTold, called}
 
 -- What is told and read again is told apart.
 told-apart : {A B : Type 0} (tell : A → B) (read : B → Option A) → ((a : A) → read (tell a) ≡ some a) → (x y : A) → tell x ≡ tell y → x ≡ y
@@ -99,6 +100,9 @@ no-list (suc (suc k)) h = refl
 
 pub readings-injective : (r s : Read) → readTold r ≡ readTold s → r ≡ s
 readings-injective r s h = λ i. record { n = h i .0 .n; refusal = h i .0 .refusal; table = h i .1 }
+
+pub writings-injective : (r s : Write) → writeTold r ≡ writeTold s → r ≡ s
+writings-injective r s e = λ i. record { len = e i .0 .len; refusal = e i .0 .refusal; text = e i .1 }
 
 pub openings-injective : (o p : Opening) → openTold o ≡ openTold p → o ≡ p
 openings-injective o p h = λ i. record {

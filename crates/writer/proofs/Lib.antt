@@ -1,4 +1,5 @@
 -- The laws that the proofs of the writer's functions cite.
+pub mod Types
 pub mod Putting
 pub mod Parts
 pub mod Whole

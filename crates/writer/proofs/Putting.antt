@@ -1,7 +1,7 @@
 -- Bytes put one after another, and bytes put into a slice that has room for all of them.
 use mathlib.Core.Path.{_≡_, refl, sym, ap, _∙_}
 use mathlib.Core.List.{List, [], _∷_, _++_}
-use Prim.Native.Nat.{ℕ, _+_, _≤_}
+use Prim.Native.Nat.{ℕ, suc, _+_, _≤_}
 use native.Mathlib.Nat.{zero-add}
 use native.Mathlib.Omega.{arith}
 use lib.ListN.{length, set, drop, length-append}
@@ -22,6 +22,14 @@ put-then {o} {at} {a} {b} {p} {r} {o₁} {o₂} x y = record {
   next = omega (arith, x .next, y .next, length-append a b);
   wrote = run-on o o₁ o₂ at p a b (x .wrote) (x .next) (y .wrote);
 }
+
+-- Into no bytes: there are none after it either.
+sets-nothing : (at : ℕ) (s : List ℕ) → sets [] at s ≡ []
+sets-nothing at [] = refl
+sets-nothing at (b ∷ s) = sets-nothing (suc at) s
+
+pub put-nothing : {at : ℕ} {s : List ℕ} {r : ℕ} {o′ : List ℕ} → Put [] at s r o′ → o′ ≡ []
+put-nothing {at} {s} x = x .wrote ∙ sets-nothing at s
 
 -- From the first byte on, into a slice that has room.
 pub put-whole : (o s : List ℕ) (r : ℕ) (o′ : List ℕ) → length s ≤ length o → Put o 0 s r o′ → o′ ≡ s ++ drop (length s) o

@@ -1,7 +1,7 @@
 -- The text of a whole table, put from the first byte on: what `write` measures and what it leaves.
-use mathlib.Core.Path.{_≡_, sym}
+use mathlib.Core.Path.{_≡_, sym, ap}
 use mathlib.Core.Bool.{false}
-use mathlib.Core.List.{List, []}
+use mathlib.Core.List.{List, [], _++_}
 use Prim.Native.Nat.{ℕ, _≤_, _<_}
 use native.Mathlib.Omega.{arith}
 use lib.ListN.{length}
@@ -15,7 +15,7 @@ use Rattle.text.specs.Writing.{refused, writeOf}
 use Rattle.text.proofs.Names.{text-short}
 use Rattle.text.proofs.Writing.{writes-none, writes-text}
 use Rattle.writer.specs.Putting.{Put, Puttable, TermPut}
-use Rattle.writer.proofs.Putting.{put-whole}
+use Rattle.writer.proofs.Putting.{put-nothing, put-whole}
 
 module _ (w : List ℕ) (n : ℕ) (A : Accepted w n) where
   pub whole-puttable : Puttable w n 1 false 0 (A .term) []
@@ -31,8 +31,12 @@ module _ (w : List ℕ) (n : ℕ) (A : Accepted w n) where
   unfolding textOf
   whole-put x = x (A .term) [] whole-puttable
 
-  pub measured : {o : List ℕ} {r : ℕ} {o′ : List ℕ} → TermPut w n 1 false 0 o r o′ → r ≡ length (textOf (A .term))
+  -- put into none of the bytes: its length, and every byte as it was
+  pub measured : {r : ℕ} {ys : List ℕ} → TermPut w n 1 false 0 [] r ys → r ≡ length (textOf (A .term))
   measured x = omega (arith, whole-put x .next)
+
+  pub untouched : {r : ℕ} {ys : List ℕ} (text : List ℕ) → TermPut w n 1 false 0 [] r ys → ys ++ text ≡ text
+  untouched text x = ap (λ (s : List ℕ). s ++ text) (put-nothing (whole-put x))
 
   module _ (text : List ℕ) (len : ℕ) (len-is : len ≡ length (textOf (A .term))) where
     pub too-long : mostBytes < len → refused 11 text ≡ writeOf w n text

@@ -13,16 +13,16 @@ pub struct Written {
     pub refusal: u32,
 }
 
-// Document 02, change 3: 7, then 11 where the text is over 3,000 bytes or over the lent ones. The text is measured by putting it into no bytes at all, so
-// that a refusal writes none.
+// Document 02, change 3: 7, then 11 where the text is over 3,000 bytes or over the lent ones. The text is measured by putting it into none of the lent
+// bytes, so that a refusal writes none.
 pub fn write(table: &[u32], n: u32, text: &mut [u8]) -> Written
     ensures { λ r. ⌜ writeMeant r (now (text .exit)) ≡ writeOf (now (table .entry)) n (now (text .entry)) ⌝ }
 {
     if !term::accepts(table, n) {
         return refused(7);
     }
-    let mut nothing = [0u8; 0];
-    let len = put_part(table, n, 1, &mut nothing, 0);
+    let none = 0;
+    let len = put_part(table, n, 1, &mut text[0..none], 0);
     if 3000 < len {
         return refused(11);
     }

@@ -45,10 +45,10 @@ pub extern "C" fn yildreuz_read(text: &[u8], table: &mut [u32]) -> HostReading
 pub extern "C" fn yildreuz_write(table: &[u32], n: u32, text: &mut [u8]) -> HostWritten
     ensures { λ r. ⌜ (r, now (text .exit)) ≡ writeTold (writeOf (now (table .entry)) n (now (text .entry))) ⌝ }
 {
-    let r = writer::write(table, n, text);
+    let w = writer::write(table, n, text);
     HostWritten {
-        len: r.len,
-        refusal: r.refusal,
+        len: w.len,
+        refusal: w.refusal,
     }
 }
 

@@ -1,13 +1,14 @@
 -- `write` refuses by the table, then by the length that it measured, and else leaves the text.
-use mathlib.Core.Path.{sym, _∙_}
+use mathlib.Core.Path.{sym, ap, _∙_}
 use mathlib.Core.List.{[]}
 use native.Mathlib.Omega.{arith}
+use lib.ListN.{length}
 use borrow.Author.Needs.{needs}
 use borrow.Author.Tests.{not-true, not-false}
 use Rattle.term.specs.Accepted.{Accepted}
 use Rattle.term.proofs.Accepted.{accepts-only}
 use Rattle.text.proofs.Writing.{writes-seven}
-use Rattle.writer.proofs.Whole.{whole-puttable, measured, too-long, too-much, fitting}
+use Rattle.writer.proofs.Whole.{whole-puttable, measured, untouched, too-long, too-much, fitting}
 use Rattle.writer.proofs.write.Statement.{statement}
 use Rattle.writer.proofs.write.Tie as tie
 
@@ -25,24 +26,29 @@ put-part-requires c κs = let A = accepted-table (c .before) in (A .term, ([], w
 
 returns-2 : tie.Need-returns-2
 returns-2 c =
-    let A = accepted-table (c .before .before .before .before .before) in
-    rw (c .refused2 .ensures) (too-long _ _ A _ _ (measured _ _ A (c .before .before .before .put-part .ensures)) (omega (arith, c .before .if2 .taken)))
+    let A = accepted-table (c .before .before .before .before .before .before) in
+    let x = c .before .before .before .before .put-part .ensures in
+    rw (c .refused2 .ensures, untouched _ _ A (c .before .before .before .before .before .before .before .before .before .before .args .text .now) x) (too-long _ _ A _ _ (measured _ _ A x) (omega (arith, c .before .if2 .taken)))
 
 returns-3 : tie.Need-returns-3
 returns-3 c =
-    let A = accepted-table (c .before .before .before .before .before .before) in
-    rw (c .refused3 .ensures) (too-much _ _ A _ _ (measured _ _ A (c .before .before .before .before .put-part .ensures)) (omega (arith, c .before .before .if2 .left)) (omega (arith, c .before .if3 .taken)))
+    let A = accepted-table (c .before .before .before .before .before .before .before) in
+    let x = c .before .before .before .before .before .put-part .ensures in
+    let same = untouched _ _ A (c .before .before .before .before .before .before .before .before .before .before .before .args .text .now) x in
+    rw (c .refused3 .ensures, same) (too-much _ _ A _ _ (measured _ _ A x) (omega (arith, c .before .before .if2 .left)) (omega (arith, c .before .if3 .taken, ap length same)))
 
 put-part-requires-2 : tie.Need-put-part-requires-2
-put-part-requires-2 c κs = let A = accepted-table (c .before .before .before .before .before .before) in (A .term, ([], whole-puttable _ _ A))
+put-part-requires-2 c κs = let A = accepted-table (c .before .before .before .before .before .before .before) in (A .term, ([], whole-puttable _ _ A))
 
 returns-4 : tie.Need-returns-4
 returns-4 c =
-    let A = accepted-table (c .before .before .before .before .before .before .before .before .before) in
-    fitting _ _ A _ _ (measured _ _ A (c .before .before .before .before .before .before .before .put-part .ensures)) (omega (arith, c .before .before .before .before .before .if2 .left)) (omega (arith, c .before .before .before .before .if3 .left)) (c .before .before .put-part2 .ensures)
+    let A = accepted-table (c .before .before .before .before .before .before .before .before .before .before) in
+    let x = c .before .before .before .before .before .before .before .before .put-part .ensures in
+    let same = untouched _ _ A (c .before .before .before .before .before .before .before .before .before .before .before .before .before .before .args .text .now) x in
+    fitting _ _ A _ _ (measured _ _ A x) (omega (arith, c .before .before .before .before .before .if2 .left)) (omega (arith, c .before .before .before .before .if3 .left, ap length same)) (rw same at (c .before .before .put-part2 .ensures))
 
 pub write-spec : {M : Type 1} → statement M
 write-spec =
     tie.close
-    (tie.spec (λ c κs. search needs) (λ c κs. search needs) returns (λ c. search needs) put-part-requires (λ c κs. search needs) returns-2
-    (λ c κs. search needs) returns-3 put-part-requires-2 (λ c. search needs) (λ c. search needs) returns-4)
+    (tie.spec (λ c κs. search needs) (λ c κs. search needs) returns (λ c. search needs) (λ c. search needs) (λ c. search needs) put-part-requires
+    (λ c κs. search needs) (λ c. search needs) returns-2 (λ c κs. search needs) (λ c. search needs) returns-3 put-part-requires-2 (λ c. search needs) (λ c. search needs) returns-4)
