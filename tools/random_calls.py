@@ -26,7 +26,7 @@ CODES = {name: code for code, name in enumerate(yildreuz.STOP_NAMES)}
 # what must have come up of each call by the end
 DUE = {
     'read': {'read'} | {'refused %d' % k for k in range(1, 7)},
-    'write': {'written', 'refused 7', 'refused 11', 'over 3,000 bytes'},
+    'write': {'written', '3,000 bytes', 'over 3,000 bytes', 'refused 7', 'refused 11'},
     'open': {'opened', 'refused 7', 'refused 8'},
     'forward': {'spent', 'answer', 'jam', 'far', 'log full', 'tape full', 'refused 7', 'refused 8', 'refused 9', 'no direction'},
     'back': {'spent', 'start', 'jam', 'log full', 'tape full', 'refused 7', 'refused 8', 'refused 9', 'no direction'},
@@ -107,6 +107,10 @@ def damaged(rng, words, n):
         if words:
             words[rng.randrange(len(words))] = rng.choice([0, 1, 2, 3, rng.randint(0, n + 2), rng.getrandbits(32)])
     return words
+
+
+def near(rng, n):
+    return rng.choice([n, n, n + 1, max(n, 1) - 1, 3001])
 
 
 def damaged_session(rng, s, n):
@@ -195,7 +199,8 @@ class Comparison:
         got = self.lib.write(table.part, n, text.part)
         length, refusal, written = reference.write(w, n, room)
         self.same((got, table.now(), text.now()), (yildreuz.Written(length, refusal), w, list(written) + before[length:]), ('write', w, n, room))
-        self.note('write', 'over 3,000 bytes' if 3000 < most <= room else 'refused %d' % refusal if refusal else 'written')
+        what = 'over 3,000 bytes' if 3000 < most <= room else 'refused %d' % refusal
+        self.note('write', what if refusal else '3,000 bytes' if length == 3000 else 'written')
         if refusal == 0:
             self.same(reference.read(written, 5 * n), (n, 0, w[:5 * n]), ('read back', w, n))
             self.read(written)
@@ -259,9 +264,9 @@ class Comparison:
         if n == 0 and rng.random() < 0.9:
             return
         if rng.random() < 0.3:
-            self.write(Lent(rng, damaged(rng, table.now(), n)), rng.choice([n, n, n + 1, max(n, 1) - 1, 3001]))
+            self.write(Lent(rng, damaged(rng, table.now(), n)), near(rng, n))
         if rng.random() < 0.05:
-            table, n = Lent(rng, damaged(rng, table.now(), n)), rng.choice([n, n, n + 1, max(n, 1) - 1, 3001])
+            table, n = Lent(rng, damaged(rng, table.now(), n)), near(rng, n)
         self.write(table, n)
         s, log, tape = self.open(table, n)
         for _ in range(rng.randint(1, 30)):

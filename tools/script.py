@@ -86,7 +86,10 @@ class Desk:
         return self.laid_out(self.text)
 
     def do_read_back(self):
-        return self.laid_out(write(self.table.part(), self.n, 3000)[2])
+        _, number, text = write(self.table.part(), self.n, 3000)
+        if number == 0:
+            self.table.back([8] * self.table.given)
+        return self.laid_out(text)
 
     def do_write(self, size, byte):
         if size > LONGEST_BUFFER or byte > 255:

@@ -88,6 +88,13 @@ fn fill(words: &mut [u32], word: u32) {
     }
 }
 
+// Other words in place of a table, where its text was not refused, so that reading the text shows what it writes.
+pub(crate) fn overwrite(refusal: u32, words: &mut [u32]) {
+    if refusal == 0 {
+        fill(words, 8);
+    }
+}
+
 fn set(words: &mut [u32], i: usize, word: u32) {
     if i < words.len() {
         words[i] = word;

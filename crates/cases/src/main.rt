@@ -23,6 +23,7 @@ use desk::with_session;
 use desk::with_text;
 use lent::changed;
 use lent::compose;
+use lent::overwrite;
 use moves::made;
 use moves::top_made;
 use session::Dir;
@@ -135,11 +136,13 @@ fn read_shown(script: &[u8], line: &[u8], d: Desk, table: &mut [u32]) -> Desk {
     with_nodes(d, n)
 }
 
-// Writes the text of the lent table, reads it into the same words, and shows the answer and the table. A refused text is empty.
+// Writes the text of the lent table, fills its words with others, reads the text into them, and shows the answer and the table. A refused text is empty,
+// and then the words stay.
 fn read_back_shown(line: &[u8], d: Desk, table: &mut [u32]) -> Desk {
     let mut text = [0u8; 3000];
     let k = least(d.table, table.len());
     let r = writer::write(&table[0..k], d.n, &mut text);
+    overwrite(r.refusal, &mut table[0..k]);
     let len = least(r.len as usize, 3000);
     let n = read_lent(line, &text[0..len], table, d.table);
     show_table(d, &table[..]);

@@ -1,4 +1,4 @@
--- The decimal digits of a number are the only ones that say it in words, and how many there are at most.
+-- The digits of a number are those that `IsDecimal` describes, and no others are; and how many there are at most.
 use mathlib.Core.Path.{_≡_, refl, sym, ap, _∙_, subst⁻¹}
 use mathlib.Core.Bool.{Bool, true, false}
 use mathlib.Core.List.{List, [], _∷_, _++_, append-nil, append-assoc}
@@ -8,16 +8,19 @@ use native.Mathlib.Omega.{arith}
 use lib.ListN.{length, getD, length-append}
 use lib.Dec.{ltb}
 use borrow.Author.Tests.{ltb-true, ltb-false, lt-ltb, le-ltb}
+use Rattle.term.specs.Choice.{choose}
 use Rattle.decimal.specs.Decimal.{digitByte, decimalIn, decimal, AllDigits, valueAfter, IsDecimal}
 
 -- One digit, or the digits of the tenth and the last one.
-in-small : (k n : ℕ) → n < 10 → decimalIn (suc k) n ≡ digitByte n ∷ []
+in-step : (k n : ℕ) → decimalIn (suc k) n ≡ choose (ltb n 10) (λ _. digitByte n ∷ []) (λ _. decimalIn k (n / 10) ++ (digitByte (n % 10) ∷ []))
 unfolding decimalIn
-in-small k n h = rw (lt-ltb n 10 h)
+in-step k n = refl
+
+in-small : (k n : ℕ) → n < 10 → decimalIn (suc k) n ≡ digitByte n ∷ []
+in-small k n h = in-step k n ∙ rw (lt-ltb n 10 h)
 
 in-more : (k n : ℕ) → 10 ≤ n → decimalIn (suc k) n ≡ decimalIn k (n / 10) ++ (digitByte (n % 10) ∷ [])
-unfolding decimalIn
-in-more k n h = rw (le-ltb n 10 h)
+in-more k n h = in-step k n ∙ rw (le-ltb n 10 h)
 
 tenth-less : (n : ℕ) → 10 ≤ n → n / 10 < n
 tenth-less n h = div-lt-self {n = n} {k = 10} (omega arith) (omega arith)
@@ -75,43 +78,36 @@ first-snoc : (s : List ℕ) (b : ℕ) → 1 ≤ length s → getD (s ++ (b ∷ [
 first-snoc [] b h = absurd (omega arith)
 first-snoc (c ∷ s) b h = refl
 
--- What the digits of a number are.
-record Spelt (n : ℕ) (s : List ℕ) : Type 0 where
-  some-digit : 1 ≤ length s
-  digits : AllDigits s
-  value : valueAfter 0 s ≡ n
-  no-zero : 1 ≤ n → 48 < getD s 0 0
+-- The digits of a number are as described, and the first is no 0 but where the number is.
+abbrev Spelt : ℕ → List ℕ → Type 0
+Spelt n s = IsDecimal s n × (1 ≤ n → 48 < getD s 0 0)
 
 spelt-one : (n : ℕ) → n < 10 → Spelt n (digitByte n ∷ [])
-spelt-one n h = record { some-digit = omega arith; digits = (omega arith, omega arith, tt); value = omega arith; no-zero = λ l. omega arith }
+spelt-one n h = (record { some-digit = omega arith; digits = (omega arith, omega arith, tt); value = omega arith; no-zero = λ e. refl }, λ l. omega arith)
 
 spelt-more : (n : ℕ) (s : List ℕ) → 10 ≤ n → Spelt (n / 10) s → Spelt n (s ++ (digitByte (n % 10) ∷ []))
 spelt-more n s h t =
     let d = div-add-mod n 10 in
     let m : n % 10 < 10 = mod-lt n {m = 10} (omega arith) in
     let b = digitByte (n % 10) in
-    record {
-      some-digit = omega (arith, length-append s (b ∷ []));
-      digits = all-snoc s b (t .digits) (omega arith) (omega arith);
-      value = value-snoc 0 s b ∙ omega (arith, t .value);
-      no-zero = λ l. rw (first-snoc s b (t .some-digit)) (t .no-zero (omega arith));
-    }
+    let first : 48 < getD (s ++ (b ∷ [])) 0 0 = rw (first-snoc s b (t .0 .some-digit)) (t .1 (omega arith)) in (
+      record {
+        some-digit = omega (arith, length-append s (b ∷ []));
+        digits = all-snoc s b (t .0 .digits) (omega arith) (omega arith);
+        value = value-snoc 0 s b ∙ omega (arith, t .0 .value);
+        no-zero = λ e. absurd (omega arith);
+      },
+      λ l. first,
+    )
 
-spelt : (n : ℕ) → Spelt n (decimal n)
-spelt =
-    by-tenths (λ n. Spelt n (decimal n))
-    (λ n h. subst⁻¹ (Spelt n) (decimal-small n h) (spelt-one n h))
-    (λ n h t. subst⁻¹ (Spelt n) (decimal-more n h) (spelt-more n (decimal (n / 10)) h t))
-
--- The digits of a number say it in words,
 pub decimal-is : (n : ℕ) → IsDecimal (decimal n) n
-decimal-is n = record { some-digit = spelt n .some-digit; digits = spelt n .digits; value = spelt n .value; no-zero = alone n }
-  where
-    alone : (n : ℕ) → getD (decimal n) 0 0 ≡ digitByte 0 → length (decimal n) ≡ 1
-    alone zero e = ap length (decimal-small 0 (omega arith))
-    alone (suc n) e = absurd (omega (arith, spelt (suc n) .no-zero (omega arith)))
+decimal-is n =
+    by-tenths (λ m. Spelt m (decimal m))
+    (λ m h. subst⁻¹ (Spelt m) (decimal-small m h) (spelt-one m h))
+    (λ m h t. subst⁻¹ (Spelt m) (decimal-more m h) (spelt-more m (decimal (m / 10)) h t))
+    n .0
 
--- and no others do.
+-- No other bytes are.
 after-digits : (v : ℕ) (s : List ℕ) → 1 ≤ v → AllDigits s → decimal (valueAfter v s) ≡ decimal v ++ s
 after-digits v [] l h = sym (append-nil (decimal v))
 after-digits v (b ∷ s) l h =

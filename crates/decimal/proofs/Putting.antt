@@ -2,17 +2,12 @@
 use mathlib.Core.Path.{_≡_, refl, ap, _∙_}
 use mathlib.Core.List.{List, [], _∷_}
 use Prim.Native.Nat.{ℕ, _+_, _/_, _%_, _≤_, _<_}
-use native.Mathlib.Nat.{div-le-self, add-zero}
+use native.Mathlib.Nat.{add-zero}
 use native.Mathlib.Omega.{arith}
 use lib.ListN.{length, set, length-append}
-use lib.Seq.{sets}
 use Rattle.term.proofs.Stores.{run-on}
-use Rattle.decimal.specs.Decimal.{digitByte, decimal}
+use Rattle.decimal.specs.Decimal.{digitByte, decimal, DigitsPut}
 use Rattle.decimal.proofs.Decimal.{decimal-small, decimal-more, decimal-few}
-
--- So many digits were put, and they stand in the slice.
-abbrev pub DigitsPut : List ℕ → ℕ → ℕ → ℕ → List ℕ → Type 0
-DigitsPut o at n r o′ = (r ≡ length (decimal n)) × (o′ ≡ sets o at (decimal n))
 
 pub one-put : (o : List ℕ) (at n : ℕ) (o′ : List ℕ) → n < 10 → o′ ≡ set o (at + 0) (digitByte n) → DigitsPut o at n 1 o′
 one-put o at n o′ h e = rw (decimal-small n h) (refl, e ∙ ap (λ (k : ℕ). set o k (digitByte n)) (add-zero at))
@@ -29,5 +24,5 @@ more-put o at n k o₁ o₂ h p e =
     )
 
 -- A word has at most ten digits.
-pub word-digits : (n : ℕ) → n < 4294967296 → length (decimal (n / 10)) ≤ 10
-word-digits n h = decimal-few 9 (n / 10) (let l = div-le-self n 10 in omega arith)
+pub word-digits : (n : ℕ) → n < 4294967296 → length (decimal n) ≤ 10
+word-digits n h = decimal-few 9 n (omega arith)

@@ -3,6 +3,7 @@ use mathlib.Core.Path.{_≡_}
 use mathlib.Core.List.{List, [], _∷_, _++_}
 use Prim.Native.Nat.{ℕ, zero, suc, _+_, _-_, _*_, _/_, _%_, _≤_}
 use lib.ListN.{length, getD}
+use lib.Seq.{sets}
 use lib.Dec.{ltb}
 use Rattle.term.specs.Choice.{choose}
 
@@ -15,11 +16,11 @@ unfoldable pub decimalIn : ℕ → ℕ → List ℕ
 decimalIn zero n = []
 decimalIn (suc k) n = choose (ltb n 10) (λ _. digitByte n ∷ []) (λ _. decimalIn k (n / 10) ++ (digitByte (n % 10) ∷ []))
 
--- No number has more digits than it counts, or 1.
+-- No number n has more than n + 1 digits.
 unfoldable pub decimal : ℕ → List ℕ
 decimal n = decimalIn (suc n) n
 
--- The same in words, for the theorems `decimal-is` and `decimal-only` (proofs/Decimal.antt): one or more digits,
+-- The same by what the bytes are, for the theorems `decimal-is` and `decimal-only` (proofs/Decimal.antt): one or more digits,
 abbrev pub AllDigits : List ℕ → Type 0
 AllDigits [] = Unit
 AllDigits (b ∷ s) = (48 ≤ b) × (b ≤ 57) × AllDigits s
@@ -35,3 +36,7 @@ pub record IsDecimal (s : List ℕ) (n : ℕ) : Type 0 where
   pub digits : AllDigits s
   pub value : valueAfter 0 s ≡ n
   pub no-zero : getD s 0 0 ≡ digitByte 0 → length s ≡ 1
+
+-- What `put` promises: it answers how many digits there are, and they stand in the slice from index `at` on, as far as there is room.
+abbrev pub DigitsPut : List ℕ → ℕ → ℕ → ℕ → List ℕ → Type 0
+DigitsPut out at n r out′ = (r ≡ length (decimal n)) × (out′ ≡ sets out at (decimal n))

@@ -1,9 +1,8 @@
 // Decimal numbers in a lent slice of bytes.
 ghost use mathlib.Core.Path.{_≡_};
 ghost use Prim.Native.Nat.{_+_, _<_};
-ghost use lib.ListN.{length, set};
-ghost use lib.Seq.{sets};
-ghost use Rattle.decimal.specs.Decimal.{digitByte, decimal};
+ghost use lib.ListN.{set};
+ghost use Rattle.decimal.specs.Decimal.{digitByte, DigitsPut};
 
 // Puts a digit at index `at + k`, where the slice has one.
 fn put_digit(out: &mut [u8], at: usize, k: usize, digit: u32)
@@ -19,7 +18,7 @@ fn put_digit(out: &mut [u8], at: usize, k: usize, digit: u32)
 
 // Puts the digits of a number into a slice, the first at index `at`; what is past the slice's end is left out. How many digits there are.
 pub fn put(out: &mut [u8], at: usize, number: u32) -> usize
-    ensures { λ r. ⌜ (r ≡ length (decimal number)) × (now (out .exit) ≡ sets (now (out .entry)) at (decimal number)) ⌝ }
+    ensures { λ r. ⌜ DigitsPut (now (out .entry)) at number r (now (out .exit)) ⌝ }
 {
     if number < 10 {
         put_digit(out, at, 0, number);

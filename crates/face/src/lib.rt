@@ -7,7 +7,7 @@ pub struct HostReading {
     pub refusal: u32,
 }
 
-// What the writer answers. Both are 0 but the refusal's number in a refusal, and a refusal of 0 is none.
+// What the writer answers. In a refusal the length is 0; a refusal of 0 is none.
 #[repr(C)]
 pub struct HostWritten {
     pub len: u32,

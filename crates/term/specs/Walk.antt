@@ -1,4 +1,4 @@
--- What the code's walk over the parts of a table asks and answers.
+-- The rows of a term in a table, and what the code's walk over the parts of a table asks and answers.
 use mathlib.Core.Path.{_≡_}
 use mathlib.Core.Option.{Option, none, some}
 use mathlib.Core.List.{List, [], _∷_}

@@ -1,5 +1,5 @@
 -- The text of a term has as few brackets as any text of a phrase with the same tree.
-use mathlib.Core.Path.{_≡_, refl, ap, _∙_}
+use mathlib.Core.Path.{_≡_, refl, ap, _∙_, subst, subst⁻¹}
 use mathlib.Core.Bool.{Bool, true, false, cond, _||_}
 use mathlib.Core.List.{List, [], _∷_, _++_}
 use Prim.Native.Nat.{ℕ, _+_, _≤_}
@@ -10,12 +10,9 @@ use Rattle.text.specs.Bytes.{Class, letter, digit, blank, sign, foreign,
 use Rattle.text.specs.Tokens.{Token, mark, name, Piece, gap, token, intoName, putByte, pieces, tokensOf, tokens}
 use Rattle.text.specs.Grammar.{Phrase, abstraction, atoms, Atoms, no-more, _and_, Atom, named, bracketed, phraseTokens, atomsTokens, atomTokens, Tree, variable, binder, apply, phraseTree, applied, atomTree, Derives}
 use Rattle.text.specs.Written.{namedTree, functionNeeds, argumentNeeds, treeText, textOf}
-use Rattle.text.specs.ReadBack.{brackets, FewestBrackets}
+use Rattle.text.specs.Spelling.{isBracket, brackets, FewestBrackets}
 use Rattle.text.proofs.Written.{enclosedTokens, treeTokens, Names, IsName, text-tokens, text-derives}
 use Rattle.text.proofs.Names.{tree-names}
-
-abbrev isBracket : ℕ → Bool
-isBracket b = eqb b opening || eqb b closing
 
 -- how many tokens are round brackets
 abbrev pub bracketMarks : List Token → ℕ
@@ -36,22 +33,29 @@ into-name b (token (mark c) ∷ ps) = refl
 into-name b (token (name x) ∷ ps) = refl
 
 -- a bracket is a sign
-no-bracket : (b : ℕ) → (classOf b ≡ sign → ⊥) → isBracket b ≡ false
+abbrev NoSign : Class → Type 0
+NoSign letter = Unit
+NoSign digit = Unit
+NoSign blank = Unit
+NoSign sign = ⊥
+NoSign foreign = Unit
+
+no-bracket : (b : ℕ) → NoSign (classOf b) → _≡_ {A = ℕ} (cond (isBracket b) 1 0) 0
 unfolding classOf
-no-bracket b h = by-tests (eqb b opening) (eqb b closing) refl refl
+no-bracket b h = by-tests (eqb b opening) (eqb b closing) (eqb-true b opening) (eqb-true b closing)
   where
-    by-tests : (s t : Bool) → eqb b opening ≡ s → eqb b closing ≡ t → (s || t) ≡ false
-    by-tests true t e f = absurd (h (ap classOf (eqb-true b opening e)))
-    by-tests false true e f = absurd (h (ap classOf (eqb-true b closing f)))
+    by-tests : (s t : Bool) → (s ≡ true → b ≡ opening) → (t ≡ true → b ≡ closing) → _≡_ {A = ℕ} (cond (s || t) 1 0) 0
+    by-tests true t e f = absurd (subst NoSign (ap classOf (e refl)) h)
+    by-tests false true e f = absurd (subst NoSign (ap classOf (f refl)) h)
     by-tests false false e f = refl
 
 put-byte : (c : Class) (b : ℕ) (ps : List Piece) → classOf b ≡ c
     → bracketMarks (tokensOf (putByte c b ps)) ≡ cond (isBracket b) 1 0 + bracketMarks (tokensOf ps)
 put-byte sign b ps e = refl
-put-byte letter b ps e = into-name b ps ∙ rw (no-bracket b (λ h. let z : _≡_ {A = ℕ} 0 1 = cc in omega arith)) (omega arith)
-put-byte digit b ps e = into-name b ps ∙ rw (no-bracket b (λ h. let z : _≡_ {A = ℕ} 0 1 = cc in omega arith)) (omega arith)
-put-byte blank b ps e = rw (no-bracket b (λ h. let z : _≡_ {A = ℕ} 0 1 = cc in omega arith)) (omega arith)
-put-byte foreign b ps e = rw (no-bracket b (λ h. let z : _≡_ {A = ℕ} 0 1 = cc in omega arith)) (omega arith)
+put-byte letter b ps e = omega (arith, into-name b ps, no-bracket b (subst⁻¹ NoSign e tt))
+put-byte digit b ps e = omega (arith, into-name b ps, no-bracket b (subst⁻¹ NoSign e tt))
+put-byte blank b ps e = omega (arith, no-bracket b (subst⁻¹ NoSign e tt))
+put-byte foreign b ps e = omega (arith, no-bracket b (subst⁻¹ NoSign e tt))
 
 pub text-brackets : (s : List ℕ) → bracketMarks (tokens s) ≡ brackets s
 unfolding pieces

@@ -13,9 +13,10 @@ use Rattle.term.specs.Term.{Term, var, lam, app, size, ClosedUnder, Closed}
 use Rattle.term.specs.Accepted.{mostNodes}
 use Rattle.term.proofs.Scope.{Falling, falling-higher, binder-before}
 use Rattle.text.specs.Bytes.{digit, dot, closing, classOf}
-use Rattle.text.specs.Tokens.{Name, startsWithDigit, AllInName}
+use Rattle.text.specs.Tokens.{Name, name, AllInName}
 use Rattle.text.specs.Grammar.{Tree, variable, binder, apply}
 use Rattle.text.specs.Binding.{nameless, Innermost, Form}
+use Rattle.text.specs.Exactly.{GoodNames}
 use Rattle.text.specs.Written.{nodeName, treeOf, namedTree, space, functionNeeds, argumentNeeds, enclosed, treeText, textOf}
 use Rattle.text.specs.ReadBack.{TextMeans}
 use Rattle.text.proofs.Binding.{nameless-exactly, nameless-closed}
@@ -33,7 +34,7 @@ digits-in-name (b ∷ s) h = (rw (digit-class b (h .0) (h .1)), digits-in-name s
 
 node-name : (i : ℕ) → IsName (nodeName i)
 unfolding classOf
-node-name i = record { some-byte = omega arith; in-name = (refl, digits-in-name (decimal i) (decimal-is i .digits)) }
+node-name i = (omega arith, (refl, digits-in-name (decimal i) (decimal-is i .digits)))
 
 pub tree-names : (t : Term) (bs : List ℕ) (i : ℕ) → Names IsName (treeOf t bs i)
 unfolding treeOf
@@ -42,13 +43,12 @@ tree-names (lam b) bs i = (node-name i, tree-names b (i ∷ bs) (suc i))
 tree-names (app f a) bs i = (tree-names f bs (suc i), tree-names a bs (suc i + size f))
 
 -- Number 3 lets a name pass whose node is one of a table's: it has at most 5 bytes, and v is no digit.
-pub record GoodName (x : Name) : Type 0 where
-  pub short : length x ≤ 8
-  pub no-digit : startsWithDigit x ≡ false
+abbrev pub GoodName : Name → Type 0
+GoodName x = GoodNames (name x ∷ [])
 
 name-good : (i : ℕ) → i ≤ mostNodes → GoodName (nodeName i)
 unfolding classOf
-name-good i h = record { short = let few = decimal-few 3 i (omega arith) in omega arith; no-digit = refl }
+name-good i h = let few = decimal-few 3 i (omega arith) in (omega arith, refl, tt)
 
 names-good : (t : Term) (bs : List ℕ) (i : ℕ) → Falling i bs → ClosedUnder (length bs) t → i + size t ≤ suc mostNodes
     → Names GoodName (treeOf t bs i)
@@ -113,8 +113,8 @@ enclosed-long false s = omega arith
 
 tree-short : (t : Tree) → Names GoodName t → length (treeText t) ≤ 16 * nodes t
 unfolding treeText
-tree-short (variable x) g = omega (arith, g .short)
-tree-short (binder x t) g = let e = length-append x (dot ∷ treeText t) in omega (arith, g .0 .short, tree-short t (g .1))
+tree-short (variable x) g = omega (arith, g .0)
+tree-short (binder x t) g = let e = length-append x (dot ∷ treeText t) in omega (arith, g .0 .0, tree-short t (g .1))
 tree-short (apply f a) g =
     let fs = enclosed (functionNeeds f) (treeText f) in
     let gs = enclosed (argumentNeeds a) (treeText a) in

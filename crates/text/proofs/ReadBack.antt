@@ -46,8 +46,8 @@ enclosed-clean false s h = h
 
 tree-clean : (t : Tree) → Names IsName t → anyForeign (treeText t) ≡ false
 unfolding treeText classOf
-tree-clean (variable x) g = name-clean x (g .in-name)
-tree-clean (binder x t) g = clean-append x (dot ∷ treeText t) (name-clean x (g .0 .in-name)) (tree-clean t (g .1))
+tree-clean (variable x) g = name-clean x (g .1)
+tree-clean (binder x t) g = clean-append x (dot ∷ treeText t) (name-clean x (g .0 .1)) (tree-clean t (g .1))
 tree-clean (apply f a) g =
     clean-append (enclosed (functionNeeds f) (treeText f)) (space ∷ enclosed (argumentNeeds a) (treeText a))
     (enclosed-clean (functionNeeds f) (treeText f) (tree-clean f (g .0)))
@@ -65,8 +65,8 @@ enclosed-good false ts h = h
 
 tree-good : (t : Tree) → Names GoodName t → GoodNames (treeTokens t)
 unfolding treeTokens
-tree-good (variable x) g = (g .short, g .no-digit, tt)
-tree-good (binder x t) g = (g .0 .short, g .0 .no-digit, tree-good t (g .1))
+tree-good (variable x) g = g
+tree-good (binder x t) g = (g .0 .0, g .0 .1, tree-good t (g .1))
 tree-good (apply f a) g =
     good-append (enclosedTokens (functionNeeds f) (treeTokens f)) (enclosedTokens (argumentNeeds a) (treeTokens a))
     (enclosed-good (functionNeeds f) (treeTokens f) (tree-good f (g .0)))

@@ -1,19 +1,20 @@
--- The writer's answers are those that specs/ReadBack.antt says in words.
+-- The writer's answers are those that specs/WritingExactly.antt says in words.
 use mathlib.Core.Path.{_≡_, refl, sym, ap, _∙_, subst, subst⁻¹}
-use mathlib.Core.Logic.{_↔_}
-use mathlib.Core.Bool.{Bool, true, false, false≢true}
-use mathlib.Core.List.{List}
-use Prim.Native.Nat.{ℕ}
+use mathlib.Core.Logic.{_↔_, _⊎_, inl, inr}
+use mathlib.Core.Bool.{Bool, true, false, _||_, false≢true}
+use mathlib.Core.List.{List, [], _∷_}
+use Prim.Native.Nat.{ℕ, _<_}
 use native.Mathlib.Omega.{arith}
 use lib.ListN.{length}
 use lib.Dec.{ltb}
-use borrow.Author.Tests.{ltb-false, le-ltb}
+use borrow.Author.Tests.{ltb-true, ltb-false}
+use Rattle.term.specs.Choice.{_⇒_, first}
 use Rattle.term.specs.Accepted.{Accepted, accepted}
 use Rattle.term.proofs.Accepted.{read-whole, accepts-all, accepts-only, one-term}
 use Rattle.text.specs.Reading.{mostBytes}
 use Rattle.text.specs.Written.{textOf}
-use Rattle.text.specs.Writing.{Write, partText, tableText, unfit, writerNumber, refused, put, writeOf}
-use Rattle.text.specs.ReadBack.{Fits, Writes, WrittenExactly, SevenExactly, ElevenExactly, RefusedUnwritten}
+use Rattle.text.specs.Writing.{Write, partText, tableText, unfit, writerNumber, refused, writtenOut, answer, writeOf}
+use Rattle.text.specs.WritingExactly.{Fits, Writes, WrittenExactly, SevenExactly, ElevenExactly, RefusedUnwritten}
 use Rattle.text.proofs.Exactly.{neither}
 
 pub table-text : (w : List ℕ) (n : ℕ) (A : Accepted w n) → tableText w n ≡ textOf (A .term)
@@ -26,31 +27,47 @@ module _ (w : List ℕ) (n : ℕ) (text : List ℕ) where
   unfolding writeOf writerNumber
   writes-seven e = rw e
 
-  pub writes-none : (A : Accepted w n) → unfit (textOf (A .term)) text ≡ true → writeOf w n text ≡ refused 11 text
+  -- past number 7, the text alone decides
+  by-text : (A : Accepted w n) → let s = textOf (A .term) in writeOf w n text ≡ answer (first ((unfit s text ⇒ 11) ∷ [])) s text
   unfolding writeOf writerNumber
-  writes-none A e = rw (accepts-all w n A, table-text w n A, e)
+  by-text A = rw (accepts-all w n A, table-text w n A)
 
-  pub writes-text : (A : Accepted w n) → unfit (textOf (A .term)) text ≡ false → writeOf w n text ≡ put (textOf (A .term)) text
-  unfolding writeOf writerNumber
-  writes-text A e = rw (accepts-all w n A, table-text w n A, e)
+  pub writes-eleven : (A : Accepted w n) → unfit (textOf (A .term)) text ≡ true → writeOf w n text ≡ refused 11 text
+  writes-eleven A e = by-text A ∙ rw e
 
-unfitting : (s text : List ℕ) → unfit s text ≡ true → Fits s text → ⊥
-unfitting s text e h = false≢true (sym (rw (le-ltb mostBytes (length s) (h .0), le-ltb (length text) (length s) (h .1))) ∙ e)
+  pub writes-text : (A : Accepted w n) → unfit (textOf (A .term)) text ≡ false → writeOf w n text ≡ writtenOut (textOf (A .term)) text
+  writes-text A e = by-text A ∙ rw e
+
+-- A text that number 11 refuses is too long for one of the two, and any other fits.
+abbrev TooLong : List ℕ → List ℕ → Type 0
+TooLong s text = (mostBytes < length s) ⊎ (length text < length s)
+
+by-length : (s text : List ℕ) (a b : Bool) → ltb mostBytes (length s) ≡ a → ltb (length text) (length s) ≡ b → (a || b) ≡ true → TooLong s text
+by-length s text true b e f h = inl (ltb-true mostBytes (length s) e)
+by-length s text false true e f h = inr (ltb-true (length text) (length s) f)
+by-length s text false false e f h = absurd (false≢true h)
+
+too-long : (s text : List ℕ) → unfit s text ≡ true → TooLong s text
+too-long s text e = by-length s text _ _ refl refl e
 
 fitted : (s text : List ℕ) → unfit s text ≡ false → Fits s text
 fitted s text e =
     let h = neither (ltb mostBytes (length s)) (ltb (length text) (length s)) e in
     (ltb-false mostBytes (length s) (h .0), ltb-false (length text) (length s) (h .1))
 
+not-both : (s text : List ℕ) → TooLong s text → Fits s text → ⊥
+not-both s text (inl l) h = omega (arith, h .0)
+not-both s text (inr l) h = omega (arith, h .1)
+
 module _ (w : List ℕ) (n : ℕ) (text : List ℕ) where
   -- what the writer finds, in the order of the tests, and what it then answers
   pub data Finds : Write → Type 0 where
     no-table : (Accepted w n → ⊥) → Finds (refused 7 text)
-    no-room : (A : Accepted w n) → (Fits (textOf (A .term)) text → ⊥) → Finds (refused 11 text)
-    fitting : (A : Accepted w n) → Fits (textOf (A .term)) text → Finds (put (textOf (A .term)) text)
+    no-room : (A : Accepted w n) → TooLong (textOf (A .term)) text → Finds (refused 11 text)
+    fitting : (A : Accepted w n) → Fits (textOf (A .term)) text → Finds (writtenOut (textOf (A .term)) text)
 
   by-room : (A : Accepted w n) (b : Bool) → unfit (textOf (A .term)) text ≡ b → Finds (writeOf w n text)
-  by-room A true e = subst⁻¹ Finds (writes-none w n text A e) (no-room A (unfitting (textOf (A .term)) text e))
+  by-room A true e = subst⁻¹ Finds (writes-eleven w n text A e) (no-room A (too-long (textOf (A .term)) text e))
   by-room A false e = subst⁻¹ Finds (writes-text w n text A e) (fitting A (fitted (textOf (A .term)) text e))
 
   by-table : (b : Bool) → accepted w n ≡ b → Finds (writeOf w n text)
@@ -65,10 +82,10 @@ module _ (w : List ℕ) (n : ℕ) (text : List ℕ) where
   seven r (no-room A h) = (λ e. absurd (omega arith), λ i. absurd (i A))
   seven r (fitting A h) = (λ e. absurd (omega arith), λ i. absurd (i A))
 
-  eleven : (r : Write) → Finds r → (r .refusal ≡ 11) ↔ ((A : Accepted w n) × (Fits (textOf (A .term)) text → ⊥))
+  eleven : (r : Write) → Finds r → (r .refusal ≡ 11) ↔ ((A : Accepted w n) × TooLong (textOf (A .term)) text)
   eleven r (no-table h) = (λ e. absurd (omega arith), λ i. absurd (h (i .0)))
   eleven r (no-room A h) = (λ e. (A, h), λ i. refl)
-  eleven r (fitting A h) = (λ e. absurd (omega arith), λ i. absurd (i .1 (subst (λ t. Fits (textOf t) text) (one-term w n A (i .0)) h)))
+  eleven r (fitting A h) = (λ e. absurd (omega arith), λ i. absurd (not-both (textOf (A .term)) text (subst (λ t. TooLong (textOf t) text) (one-term w n (i .0) A) (i .1)) h))
 
   unwritten : (r : Write) → Finds r → (r .refusal ≡ 0 → ⊥) → (r .len ≡ 0) × (r .text ≡ text)
   unwritten r (no-table h) i = (refl, refl)
@@ -82,7 +99,7 @@ module _ (w : List ℕ) (n : ℕ) (text : List ℕ) where
   writes r len bytes (no-table h) = (λ e. absurd (omega (arith, same-refusal e)), λ i. absurd (h (i .accepted-table)))
   writes r len bytes (no-room A h) = (
     λ e. absurd (omega (arith, same-refusal e)),
-    λ i. absurd (h (subst (λ t. Fits (textOf t) text) (one-term w n (i .accepted-table) A) (i .fits))),
+    λ i. absurd (not-both (textOf (A .term)) text h (subst (λ t. Fits (textOf t) text) (one-term w n (i .accepted-table) A) (i .fits))),
   )
   writes r len bytes (fitting A h) = (
     λ e.

@@ -2,13 +2,12 @@
 use mathlib.Core.Path.{_≡_, refl, sym, ap, _∙_}
 use mathlib.Core.Bool.{Bool, true, false}
 use mathlib.Core.List.{List, [], _∷_, _++_, append-nil, append-assoc}
-use Prim.Native.Nat.{ℕ, _≤_}
-use lib.ListN.{length}
+use Prim.Native.Nat.{ℕ}
 use Rattle.text.specs.Bytes.{lambda, dot, opening, closing, classOf}
-use Rattle.text.specs.Tokens.{Name, Token, mark, name, tokens, AllInName}
+use Rattle.text.specs.Tokens.{Name, Token, mark, name, token, tokens, IsPiece}
 use Rattle.text.specs.Grammar.{Phrase, abstraction, atoms, Atoms, no-more, _and_, Atom, named, bracketed, phraseTokens, atomsTokens, atomTokens, Tree, variable, binder, apply, phraseTree, applied, atomTree, Derives}
 use Rattle.text.specs.Written.{functionNeeds, argumentNeeds, space, enclosed, treeText, phraseText, atomsText, atomText}
-use Rattle.text.specs.ReadBack.{WrittenPhrase}
+use Rattle.text.specs.Spelling.{WrittenPhrase}
 use Rattle.text.proofs.Tokens.{NameEnds, tokens-nil, tokens-blank, tokens-mark, tokens-name}
 
 -- The phrase of a tree, by itself, as the function of the atoms bs, and as an atom.
@@ -99,10 +98,9 @@ Names P (variable x) = P x
 Names P (binder x t) = P x × Names P t
 Names P (apply f a) = Names P f × Names P a
 
--- A name as the grammar has it.
-pub record IsName (x : Name) : Type 0 where
-  pub some-byte : 1 ≤ length x
-  pub in-name : AllInName x
+-- a name as the grammar has it
+abbrev pub IsName : Name → Type 0
+IsName x = IsPiece (token (name x))
 
 -- The text of a tree has its tokens, where what follows does not go on with its last name.
 abbrev TokensBefore : List ℕ → List Token → Type 0
@@ -118,13 +116,13 @@ enclosed-tokens true s ts h rest e =
 
 tree-tokens : (t : Tree) → Names IsName t → TokensBefore (treeText t) (treeTokens t)
 unfolding treeText treeTokens classOf
-tree-tokens (variable x) g rest e = tokens-name x rest (g .some-byte) (g .in-name) e
+tree-tokens (variable x) g rest e = tokens-name x rest (g .0) (g .1) e
 tree-tokens (binder x t) g rest e =
     let body = dot ∷ (treeText t ++ rest) in
     tokens-mark lambda (x ++ (dot ∷ treeText t) ++ rest) refl
     ∙ ap (λ (us : List Token). mark lambda ∷ us)
     (ap tokens (append-assoc x (dot ∷ treeText t) rest)
-    ∙ tokens-name x body (g .0 .some-byte) (g .0 .in-name) refl
+    ∙ tokens-name x body (g .0 .0) (g .0 .1) refl
     ∙ rw (tokens-mark dot (treeText t ++ rest) refl, tree-tokens t (g .1) rest e))
 tree-tokens (apply f a) g rest e =
     let fs = enclosed (functionNeeds f) (treeText f) in

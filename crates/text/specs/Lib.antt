@@ -6,5 +6,7 @@ pub mod Binding
 pub mod Reading
 pub mod Exactly
 pub mod Written
+pub mod Spelling
 pub mod Writing
+pub mod WritingExactly
 pub mod ReadBack

@@ -38,12 +38,12 @@ abbrev pub refused : ℕ → List ℕ → Write
 refused k text = record { len = 0; refusal = k; text = text }
 
 -- "The call answers its length." "Lent words or bytes that a call is not said to write keep their values."
-abbrev pub put : List ℕ → List ℕ → Write
-put s text = record { len = length s; refusal = 0; text = s ++ drop (length s) text }
+abbrev pub writtenOut : List ℕ → List ℕ → Write
+writtenOut s text = record { len = length s; refusal = 0; text = s ++ drop (length s) text }
 
 abbrev pub answer : Option ℕ → List ℕ → List ℕ → Write
 answer (some k) s text = refused k text
-answer none s text = put s text
+answer none s text = writtenOut s text
 
 unfoldable pub writeOf : List ℕ → ℕ → List ℕ → Write
 writeOf w n text = answer (writerNumber w n text) (tableText w n) text

@@ -13,7 +13,7 @@ use Rattle.term.specs.Walk.{RowsIn}
 use Rattle.term.proofs.Rows.{size-positive}
 use Rattle.text.specs.Bytes.{lambda, dot, opening, closing}
 use Rattle.text.specs.Written.{nodeName, treeOf, functionNeeds, argumentNeeds, space, enclosed, treeText}
-use Rattle.writer.specs.Putting.{longestText, Put, binderText, Stood, textAt, Puttable, TermPut}
+use Rattle.writer.specs.Putting.{longestText, Put, binderText, Stood, textAt, Puttable, PartPut}
 use Rattle.writer.proofs.Putting.{put-then}
 
 -- Whether the grammar needs brackets around a part, by the kind of its root.
@@ -90,7 +90,7 @@ module _ (w : List ℕ) (n i at : ℕ) where
   name-room t bs h k = omega (arith, h .short, ap length (variable-text w n i t bs (h .stood) k))
 
   pub variable-put : {o : List ℕ} {r : ℕ} {o′ : List ℕ} → tableIn w n .kind i ≡ 1 → Put o at (nodeName (tableIn w n .left i)) r o′
-      → TermPut w n i false at o r o′
+      → PartPut w n i false at o r o′
   variable-put {o} {r} {o′} k x t bs h = subst⁻¹ (λ s. Put o at s r o′) (variable-text w n i t bs (h .stood) k) x
 
   -- an abstraction: room for the binder, and then for the body
@@ -114,7 +114,7 @@ module _ (w : List ℕ) (n i at : ℕ) where
       }
 
   pub abstraction-put : {o : List ℕ} {p : ℕ} {o₁ : List ℕ} {r : ℕ} {o₂ : List ℕ} → tableIn w n .kind i ≡ 2
-      → Put o at (binderText i) p o₁ → TermPut w n (i + 1) false p o₁ r o₂ → TermPut w n i false at o r o₂
+      → Put o at (binderText i) p o₁ → PartPut w n (i + 1) false p o₁ r o₂ → PartPut w n i false at o r o₂
   abstraction-put {o} {p} {o₁} {r} {o₂} k x y t bs h =
       let b = body-room t bs h k in
       subst⁻¹ (λ s. Put o at s r o₂) (b .text-is) (put-then x (y (b .body) (i ∷ bs) (b .puttable p (x .next))))
@@ -152,7 +152,7 @@ module _ (w : List ℕ) (n i at : ℕ) where
 
     pub application-put : {o : List ℕ} {p : ℕ} {o₁ : List ℕ} {q : ℕ} {o₂ : List ℕ} {r : ℕ} {o₃ : List ℕ}
         → (tableIn w n .kind i ≡ 1 → ⊥) → (tableIn w n .kind i ≡ 2 → ⊥)
-        → TermPut w n (i + 1) b at o p o₁ → Put o₁ p (space ∷ []) q o₂ → TermPut w n j c q o₂ r o₃ → TermPut w n i false at o r o₃
+        → PartPut w n (i + 1) b at o p o₁ → Put o₁ p (space ∷ []) q o₂ → PartPut w n j c q o₂ r o₃ → PartPut w n i false at o r o₃
     application-put {o} {p} {o₁} {q} {o₂} {r} {o₃} k l x y z t bs h =
         let s = sides-room t bs h k l in
         let f = x (s .function) bs (s .function-puttable) in
@@ -163,8 +163,8 @@ module _ (w : List ℕ) (n i at : ℕ) where
   pub bare-puttable : (b : Bool) (t : Term) (bs : List ℕ) → b ≡ false → Puttable w n i b at t bs → Puttable w n i false at t bs
   bare-puttable b t bs e h = subst (λ c. Puttable w n i c at t bs) e h
 
-  pub bare-put : (b : Bool) {o : List ℕ} {r : ℕ} {o′ : List ℕ} → b ≡ false → TermPut w n i false at o r o′ → TermPut w n i b at o r o′
-  bare-put b {o} {r} {o′} e x = subst⁻¹ (λ c. TermPut w n i c at o r o′) e x
+  pub bare-put : (b : Bool) {o : List ℕ} {r : ℕ} {o′ : List ℕ} → b ≡ false → PartPut w n i false at o r o′ → PartPut w n i b at o r o′
+  bare-put b {o} {r} {o′} e x = subst⁻¹ (λ c. PartPut w n i c at o r o′) e x
 
   -- and one in brackets.
   pub inner-puttable : (b : Bool) (t : Term) (bs : List ℕ) (p : ℕ) → b ≡ true → Puttable w n i b at t bs → p ≡ at + 1 → Puttable w n i false p t bs
@@ -176,12 +176,12 @@ module _ (w : List ℕ) (n i at : ℕ) where
   opening-room false t bs e h = absurd (false≢true e)
 
   pub closing-room : (b : Bool) {o : List ℕ} {p : ℕ} {o₁ : List ℕ} {q : ℕ} {o₂ : List ℕ} (t : Term) (bs : List ℕ) → b ≡ true → Puttable w n i b at t bs
-      → Put o at (opening ∷ []) p o₁ → TermPut w n i false p o₁ q o₂ → q < longestText
+      → Put o at (opening ∷ []) p o₁ → PartPut w n i false p o₁ q o₂ → q < longestText
   closing-room true {p = p} t bs e h x y =
       omega (arith, h .short, length-append (textAt t bs i) (closing ∷ []), x .next, y t bs (inner-puttable true t bs p refl h (x .next)) .next)
   closing-room false t bs e h x y = absurd (false≢true e)
 
   pub brackets-put : (b : Bool) {o : List ℕ} {p : ℕ} {o₁ : List ℕ} {q : ℕ} {o₂ : List ℕ} {r : ℕ} {o₃ : List ℕ} → b ≡ true
-      → Put o at (opening ∷ []) p o₁ → TermPut w n i false p o₁ q o₂ → Put o₂ q (closing ∷ []) r o₃ → TermPut w n i b at o r o₃
+      → Put o at (opening ∷ []) p o₁ → PartPut w n i false p o₁ q o₂ → Put o₂ q (closing ∷ []) r o₃ → PartPut w n i b at o r o₃
   brackets-put true {p = p} e x y z t bs h = put-then x (put-then (y t bs (inner-puttable true t bs p refl h (x .next))) z)
   brackets-put false e x y z t bs h = absurd (false≢true e)

@@ -6,7 +6,7 @@ use native.Mathlib.Nat.{zero-add}
 use native.Mathlib.Omega.{arith}
 use lib.ListN.{length, set, drop, length-append}
 use lib.Seq.{sets, sets-eq}
-use Rattle.decimal.specs.Decimal.{decimal}
+use Rattle.decimal.specs.Decimal.{decimal, DigitsPut}
 use Rattle.term.proofs.Stores.{set-beyond, run-on}
 use Rattle.writer.specs.Putting.{Put}
 
@@ -35,6 +35,6 @@ put-nothing {at} {s} x = x .wrote ∙ sets-nothing at s
 pub put-whole : (o s : List ℕ) (r : ℕ) (o′ : List ℕ) → length s ≤ length o → Put o 0 s r o′ → o′ ≡ s ++ drop (length s) o
 put-whole o s r o′ room x = x .wrote ∙ sets-eq s o 0 (omega arith) ∙ simp zero-add
 
--- What `decimal::put` puts: it answers how many digits there are.
-pub digits-put : (o : List ℕ) (at n k : ℕ) (o′ : List ℕ) → (k ≡ length (decimal n)) × (o′ ≡ sets o at (decimal n)) → Put o at (decimal n) (at + k) o′
+-- digits, of which `decimal::put` answers how many there are
+pub digits-put : (o : List ℕ) (at n k : ℕ) (o′ : List ℕ) → DigitsPut o at n k o′ → Put o at (decimal n) (at + k) o′
 digits-put o at n k o′ x = record { next = ap (λ (j : ℕ). at + j) (x .0); wrote = x .1 }

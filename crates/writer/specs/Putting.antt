@@ -1,4 +1,4 @@
--- What putting bytes, names and terms into a lent slice asks and promises.
+-- What putting bytes, names and parts of a table into a lent slice asks and promises.
 use mathlib.Core.Path.{_≡_}
 use mathlib.Core.Bool.{Bool}
 use mathlib.Core.List.{List, [], _∷_, _++_}
@@ -11,7 +11,7 @@ use Rattle.term.specs.Walk.{RowsIn}
 use Rattle.text.specs.Bytes.{lambda, dot}
 use Rattle.text.specs.Written.{nodeName, treeOf, enclosed, treeText}
 
--- No text of 3,000 nodes is longer: each node takes at most 16 bytes (`text-short`, proofs/Putting.antt).
+-- No term of 3,000 nodes has a longer text: each node takes at most 16 bytes (`text` Names, `text-short`).
 abbrev pub longestText : ℕ
 longestText = 48000
 
@@ -24,22 +24,22 @@ pub record Put (out : List ℕ) (at : ℕ) (s : List ℕ) (r : ℕ) (out′ : Li
 abbrev pub binderText : ℕ → List ℕ
 binderText i = lambda ∷ (nodeName i ++ (dot ∷ []))
 
--- A term stands in a table: its root is node i, and bs are the binders around it.
+-- A term stands in a table as the part whose root is node i, and bs are the binders around it.
 pub record Stood (w : List ℕ) (n i : ℕ) (t : Term) (bs : List ℕ) : Type 0 where
   pub parent : ℕ
   pub level : ℕ
   pub rows : RowsIn (tableIn w n) t bs i parent level
   pub last : i + size t ≤ suc n
 
--- the text of it
+-- its text
 abbrev pub textAt : Term → List ℕ → ℕ → List ℕ
 textAt t bs i = treeText (treeOf t bs i)
 
--- There is a term at the node, and its text ends within what is counted.
+-- The same, and its text, from index `at` on and in brackets or not, ends within what is counted.
 pub record Puttable (w : List ℕ) (n i : ℕ) (b : Bool) (at : ℕ) (t : Term) (bs : List ℕ) : Type 0 where
   pub stood : Stood w n i t bs
   pub short : at + length (enclosed b (textAt t bs i)) ≤ longestText
 
--- What the functions that put a term promise, from what they were lent at entry: the text of every term that stands there. (Only one does; the caller knows which.)
-abbrev pub TermPut : List ℕ → ℕ → ℕ → Bool → ℕ → List ℕ → ℕ → List ℕ → Type 0
-TermPut w n i b at out r out′ = (t : Term) (bs : List ℕ) → Puttable w n i b at t bs → Put out at (enclosed b (textAt t bs i)) r out′
+-- What the functions that put a part promise, from what they were lent at entry: the text of every term that stands there. (Only one does; the caller knows which.)
+abbrev pub PartPut : List ℕ → ℕ → ℕ → Bool → ℕ → List ℕ → ℕ → List ℕ → Type 0
+PartPut w n i b at out r out′ = (t : Term) (bs : List ℕ) → Puttable w n i b at t bs → Put out at (enclosed b (textAt t bs i)) r out′

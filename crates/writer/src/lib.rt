@@ -13,7 +13,7 @@ pub struct Written {
     pub refusal: u32,
 }
 
-// Document 02, change 3: 7, then 11 where the text is over 3,000 bytes or over the lent ones. The text is measured by putting it into none of the lent
+// Document 02, change 3: 7, then 11 where the text is over 3,000 bytes or over the lent buffer. The text is measured by putting it into none of the lent
 // bytes, so that a refusal writes none.
 pub fn write(table: &[u32], n: u32, text: &mut [u8]) -> Written
     ensures { λ r. ⌜ writeMeant r (now (text .exit)) ≡ writeOf (now (table .entry)) n (now (text .entry)) ⌝ }

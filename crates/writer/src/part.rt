@@ -3,15 +3,15 @@ ghost use mathlib.Core.Bool.{false};
 ghost use mathlib.Core.List.{List};
 ghost use Prim.Native.Nat.{ℕ};
 ghost use Rattle.term.specs.Term.{Term};
-ghost use Rattle.writer.specs.Putting.{Puttable, TermPut};
+ghost use Rattle.writer.specs.Putting.{Puttable, PartPut};
 use crate::put::put_binder;
 use crate::put::put_byte;
 use crate::put::put_name;
 
-// The part whose root is a node.
+// The part whose root is a node. Nodes are numbered in preorder, so a body or a function is the node after it.
 pub(crate) fn put_part(table: &[u32], n: u32, node: u32, out: &mut [u8], at: usize) -> usize
     requires { ⌜ ((t : Term) × ((bs : List ℕ) × Puttable (now table) n node false at t bs)) ⌝ }
-    ensures { λ r. ⌜ TermPut (now (table .entry)) n node false at (now (out .entry)) r (now (out .exit)) ⌝ }
+    ensures { λ r. ⌜ PartPut (now (table .entry)) n node false at (now (out .entry)) r (now (out .exit)) ⌝ }
 {
     let kind = term::kind(table, n, node);
     if kind == 1 {
@@ -40,7 +40,7 @@ fn put_enclosed(
     at: usize,
 ) -> usize
     requires { ⌜ ((t : Term) × ((bs : List ℕ) × Puttable (now table) n node brackets at t bs)) ⌝ }
-    ensures { λ r. ⌜ TermPut (now (table .entry)) n node brackets at (now (out .entry)) r (now (out .exit)) ⌝ }
+    ensures { λ r. ⌜ PartPut (now (table .entry)) n node brackets at (now (out .entry)) r (now (out .exit)) ⌝ }
 {
     if !brackets {
         return put_part(table, n, node, out, at);

@@ -1,7 +1,7 @@
 -- `put` puts the digits of the number's tenth, and then its last one. Its measure is the number.
-use Prim.Native.Nat.{ℕ, _<_}
+use Prim.Native.Nat.{ℕ, _/_, _<_}
 use mathlib.Core.Path.{_∙_}
-use native.Mathlib.Nat.{mod-lt, div-lt-self}
+use native.Mathlib.Nat.{mod-lt, div-lt-self, div-le-self}
 use native.Mathlib.Omega.{arith}
 use borrow.Fn.Kinds.{In}
 use borrow.Fn.PlainCycle.{Measures, is, falls, and}
@@ -49,7 +49,8 @@ module _ (t : ℕ) where
   add-result : put-lts.Need-add-result claims (put-at t) put.Post
   add-result c =
       let s = c .before .before .before .before .before .before .before .before .before .before in
-      omega (arith, word-digits (s .args .number) (omega (arith, s .good)), c .before .before .before .before .before .before .put .ensures .0)
+      let l = div-le-self (s .args .number) 10 in
+      omega (arith, word-digits (s .args .number / 10) (omega (arith, s .good)), c .before .before .before .before .before .before .put .ensures .0)
 
   same-length-2 : put-lts.Need-same-length-2 claims (put-at t) put.Post
   same-length-2 c = c .before .before .put-digit2 .kept .0 ∙ c .before .before .before .before .before .before .put .kept .0
