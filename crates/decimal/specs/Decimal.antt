@@ -37,6 +37,6 @@ pub record IsDecimal (s : List ℕ) (n : ℕ) : Type 0 where
   pub value : valueAfter 0 s ≡ n
   pub no-zero : getD s 0 0 ≡ digitByte 0 → length s ≡ 1
 
--- What `put` promises: it answers how many digits there are, and they stand in the slice from index `at` on, as far as there is room.
-abbrev pub DigitsPut : List ℕ → ℕ → ℕ → ℕ → List ℕ → Type 0
-DigitsPut out at n r out′ = (r ≡ length (decimal n)) × (out′ ≡ sets out at (decimal n))
+-- What putting a number into a slice answers and leaves: how many digits there are, and the slice with these from index `at` on, as far as there is room.
+abbrev pub putOf : List ℕ → ℕ → ℕ → ℕ × List ℕ
+putOf out at n = (length (decimal n), sets out at (decimal n))

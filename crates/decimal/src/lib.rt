@@ -2,7 +2,7 @@
 ghost use mathlib.Core.Path.{_≡_};
 ghost use Prim.Native.Nat.{_+_, _<_};
 ghost use lib.ListN.{set};
-ghost use Rattle.decimal.specs.Decimal.{digitByte, DigitsPut};
+ghost use Rattle.decimal.specs.Decimal.{digitByte, putOf};
 
 // Puts a digit at index `at + k`, where the slice has one.
 fn put_digit(out: &mut [u8], at: usize, k: usize, digit: u32)
@@ -18,7 +18,7 @@ fn put_digit(out: &mut [u8], at: usize, k: usize, digit: u32)
 
 // Puts the digits of a number into a slice, the first at index `at`; what is past the slice's end is left out. How many digits there are.
 pub fn put(out: &mut [u8], at: usize, number: u32) -> usize
-    ensures { λ r. ⌜ DigitsPut (now (out .entry)) at number r (now (out .exit)) ⌝ }
+    ensures { λ r. ⌜ (r, now (out .exit)) ≡ putOf (now (out .entry)) at number ⌝ }
 {
     if number < 10 {
         put_digit(out, at, 0, number);

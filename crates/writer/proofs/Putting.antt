@@ -6,7 +6,7 @@ use native.Mathlib.Nat.{zero-add}
 use native.Mathlib.Omega.{arith}
 use lib.ListN.{length, set, drop, length-append}
 use lib.Seq.{sets, sets-eq}
-use Rattle.decimal.specs.Decimal.{decimal, DigitsPut}
+use Rattle.decimal.specs.Decimal.{decimal, putOf}
 use Rattle.term.proofs.Stores.{set-beyond, run-on}
 use Rattle.writer.specs.Putting.{Put}
 
@@ -36,5 +36,5 @@ pub put-whole : (o s : List ℕ) (r : ℕ) (o′ : List ℕ) → length s ≤ le
 put-whole o s r o′ room x = x .wrote ∙ sets-eq s o 0 (omega arith) ∙ simp zero-add
 
 -- digits, of which `decimal::put` answers how many there are
-pub digits-put : (o : List ℕ) (at n k : ℕ) (o′ : List ℕ) → DigitsPut o at n k o′ → Put o at (decimal n) (at + k) o′
-digits-put o at n k o′ x = record { next = ap (λ (j : ℕ). at + j) (x .0); wrote = x .1 }
+pub digits-put : (o : List ℕ) (at n k : ℕ) (o′ : List ℕ) → (k, o′) ≡ putOf o at n → Put o at (decimal n) (at + k) o′
+digits-put o at n k o′ e = record { next = ap (λ x. at + x .0) e; wrote = ap (λ x. x .1) e }

@@ -1,6 +1,6 @@
 -- `put` puts the digits of the number's tenth, and then its last one. Its measure is the number.
 use Prim.Native.Nat.{ℕ, _/_, _<_}
-use mathlib.Core.Path.{_∙_}
+use mathlib.Core.Path.{ap, _∙_}
 use native.Mathlib.Nat.{mod-lt, div-lt-self, div-le-self}
 use native.Mathlib.Omega.{arith}
 use borrow.Fn.Kinds.{In}
@@ -50,7 +50,7 @@ module _ (t : ℕ) where
   add-result c =
       let s = c .before .before .before .before .before .before .before .before .before .before in
       let l = div-le-self (s .args .number) 10 in
-      omega (arith, word-digits (s .args .number / 10) (omega (arith, s .good)), c .before .before .before .before .before .before .put .ensures .0)
+      omega (arith, word-digits (s .args .number / 10) (omega (arith, s .good)), ap (λ x. x .0) (c .before .before .before .before .before .before .put .ensures))
 
   same-length-2 : put-lts.Need-same-length-2 claims (put-at t) put.Post
   same-length-2 c = c .before .before .put-digit2 .kept .0 ∙ c .before .before .before .before .before .before .put .kept .0
