@@ -11,6 +11,7 @@ pub mod Accepted
 pub mod Example
 pub mod Written
 pub mod Names
+pub mod NodeNames
 pub mod Fewest
 pub mod Writing
 pub mod ReadBack

@@ -1,15 +1,32 @@
--- How a written text is spelled: one space between atoms and no other blanks (`written-phrase`, proofs/Written.antt), and as few brackets as can be
--- (`fewest-brackets`, proofs/Fewest.antt).
+-- How a written text is spelled: binders named by their nodes (`named-by-node`, proofs/NodeNames.antt), one space between atoms and no other blanks
+-- (`written-phrase`, proofs/Written.antt), and as few brackets as can be (`fewest-brackets`, proofs/Fewest.antt).
 use mathlib.Core.Path.{_≡_}
 use mathlib.Core.Bool.{Bool, cond, _||_}
-use mathlib.Core.List.{List, [], _∷_}
-use Prim.Native.Nat.{ℕ, _+_, _≤_}
+use mathlib.Core.List.{List, [], _∷_, _++_}
+use Prim.Native.Nat.{ℕ, zero, suc, _+_, _≤_}
 use lib.Dec.{eqb}
 use Rattle.term.specs.Term.{Term}
+use Rattle.term.specs.Table.{Table, tableIn}
+use Rattle.term.specs.Accepted.{Accepted}
 use Rattle.text.specs.Bytes.{opening, closing}
-use Rattle.text.specs.Tokens.{tokens}
-use Rattle.text.specs.Grammar.{Phrase, Tree, phraseTree, Derives}
-use Rattle.text.specs.Written.{namedTree, treeText, textOf, phraseText}
+use Rattle.text.specs.Tokens.{Name, tokens}
+use Rattle.text.specs.Grammar.{Phrase, Tree, variable, binder, apply, phraseTree, Derives}
+use Rattle.text.specs.Written.{nodeName, namedTree, treeText, textOf, phraseText}
+
+-- the names of a tree's binders, in the order of its text
+abbrev pub binderNames : Tree → List Name
+binderNames (variable x) = []
+binderNames (binder x t) = x ∷ binderNames t
+binderNames (apply f a) = binderNames f ++ binderNames a
+
+-- v and the number of each abstraction among k nodes of a table, from node i on
+abbrev pub abstractionNames : Table → ℕ → ℕ → List Name
+abstractionNames T i zero = []
+abstractionNames T i (suc k) = cond (eqb (T .kind i) 2) (nodeName i ∷ []) [] ++ abstractionNames T (suc i) k
+
+-- "the name of a binder is v and its node number": a table's abstractions name the binders of its term's tree, in their order.
+abbrev pub NamedByNode : Type 0
+NamedByNode = (w : List ℕ) (n : ℕ) (A : Accepted w n) → binderNames (namedTree (A .term)) ≡ abstractionNames (tableIn w n) 1 n
 
 -- "one space between atoms", "no other blanks": the text of a tree is that of a phrase of it.
 abbrev pub WrittenPhrase : Type 0
