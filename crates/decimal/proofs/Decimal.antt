@@ -139,7 +139,7 @@ decimal-only (b ∷ c ∷ s) n h =
 pub decimal-apart : (m n : ℕ) → decimal m ≡ decimal n → m ≡ n
 decimal-apart m n e = sym (decimal-is m .value) ∙ ap (valueAfter 0) e ∙ decimal-is n .value
 
--- A number below 10 ^ k has at most k digits.
+-- A number below 10 ^ (k + 1) has at most k + 1 digits.
 pub decimal-few : (k n : ℕ) → n < 10 ^ suc k → length (decimal n) ≤ suc k
 decimal-few zero n h = omega (arith, ap length (decimal-small n (omega arith)))
 decimal-few (suc k) n h =

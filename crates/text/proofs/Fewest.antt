@@ -15,7 +15,7 @@ use Rattle.text.proofs.Written.{enclosedTokens, treeTokens, Names, IsNa
 use Rattle.text.proofs.Names.{tree-names}
 
 -- how many tokens are round brackets
-abbrev pub bracketMarks : List Token → ℕ
+abbrev bracketMarks : List Token → ℕ
 bracketMarks [] = 0
 bracketMarks (mark b ∷ ts) = cond (isBracket b) 1 0 + bracketMarks ts
 bracketMarks (name x ∷ ts) = bracketMarks ts
@@ -57,7 +57,7 @@ put-byte digit b ps e = omega (arith, into-name b ps, no-bracket b (subst⁻¹ N
 put-byte blank b ps e = omega (arith, no-bracket b (subst⁻¹ NoSign e tt))
 put-byte foreign b ps e = omega (arith, no-bracket b (subst⁻¹ NoSign e tt))
 
-pub text-brackets : (s : List ℕ) → bracketMarks (tokens s) ≡ brackets s
+text-brackets : (s : List ℕ) → bracketMarks (tokens s) ≡ brackets s
 unfolding pieces
 text-brackets [] = refl
 text-brackets (b ∷ s) = put-byte (classOf b) b (pieces s) refl ∙ ap (λ k. cond (isBracket b) 1 0 + k) (text-brackets s)
@@ -79,7 +79,7 @@ function-argument (apply f a) = enclosed-more true (apply f a) .0
 mutual
   unfolding treeTokens
 
-  pub phrase-fewest : (p : Phrase) → bracketMarks (treeTokens (phraseTree p)) ≤ bracketMarks (phraseTokens p)
+  phrase-fewest : (p : Phrase) → bracketMarks (treeTokens (phraseTree p)) ≤ bracketMarks (phraseTokens p)
   phrase-fewest (abstraction x p) = omega (arith, phrase-fewest p)
   phrase-fewest (atoms a bs) =
       omega (

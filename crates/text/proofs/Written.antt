@@ -12,7 +12,7 @@ use Rattle.text.proofs.Tokens.{NameEnds, tokens-nil, tokens-blank, toke
 
 -- The phrase of a tree, by itself, as the function of the atoms bs, and as an atom.
 abbrev mutual
-  pub phraseOf : Tree → Phrase
+  phraseOf : Tree → Phrase
   phraseOf (variable x) = atoms (named x) no-more
   phraseOf (binder x t) = abstraction x (phraseOf t)
   phraseOf (apply f a) = onto f (atomOf a and no-more)
