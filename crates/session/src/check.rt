@@ -1,7 +1,8 @@
 // The numbers 7, 8 and 9, in their order of test.
 ghost use mathlib.Core.Path.{_≡_};
-ghost use mathlib.Core.Bool.{false, not};
-ghost use Prim.Native.Nat.{_^_, _<_};
+ghost use mathlib.Core.Bool.{true, false, not};
+ghost use Prim.Native.Nat.{_^_, _<_, _≤_};
+ghost use lib.ListN.{length, drop};
 ghost use lib.Dec.{eqb};
 ghost use Rattle.term.specs.Choice.{isNone, ifSome};
 ghost use Rattle.term.specs.Table.{tableIn};
@@ -94,8 +95,11 @@ fn is_tape(table: &[u32], n: u32, words: &[u32]) -> bool
     }
 }
 
-// Whether the session and its slices hold a state.
-fn holds_state(table: &[u32], n: u32, session: Session, log: &[u32], tape: &[u32]) -> bool
+// Whether the words below both tops are the log and the tape of a state at the session's node: the walk over the entries. It sees no word above a top, so its answer is
+// number 9's only after a look there: it "demands that every word above both tops is 0" (document 02, change 4).
+fn walk_entries(table: &[u32], n: u32, session: Session, log: &[u32], tape: &[u32]) -> bool
+    requires { ⌜ (session .«log_len» ≤ length (now log)) × (session .«tape_len» ≤ length (now tape)) ⌝ }
+    requires { ⌜ (allZero (drop (session .«log_len») (now log)) ≡ true) × (allZero (drop (session .«tape_len») (now tape)) ≡ true) ⌝ }
     ensures { λ r. ⌜ r ≡ not (isNone (stateIn (tableIn (now (table .entry)) n) (sessionMeant session) (now (log .entry)) (now (tape .entry)))) ⌝ }
 {
     let node = session.node;
@@ -107,6 +111,19 @@ fn holds_state(table: &[u32], n: u32, session: Session, log: &[u32], tape: &[u32
     if n < node {
         return false;
     }
+    let level = term::level(table, n, node);
+    if !is_log(table, n, &log[..l], level) {
+        return false;
+    }
+    is_tape(table, n, &tape[..t])
+}
+
+// Whether the session and its slices hold a state: once both tops lie in their slices, first the look at the words above them, and only then the walk.
+fn holds_state(table: &[u32], n: u32, session: Session, log: &[u32], tape: &[u32]) -> bool
+    ensures { λ r. ⌜ r ≡ not (isNone (stateIn (tableIn (now (table .entry)) n) (sessionMeant session) (now (log .entry)) (now (tape .entry)))) ⌝ }
+{
+    let l = session.log_len as usize;
+    let t = session.tape_len as usize;
     if log.len() < l {
         return false;
     }
@@ -119,11 +136,7 @@ fn holds_state(table: &[u32], n: u32, session: Session, log: &[u32], tape: &[u32
     if !zeros(&tape[t..]) {
         return false;
     }
-    let level = term::level(table, n, node);
-    if !is_log(table, n, &log[..l], level) {
-        return false;
-    }
-    is_tape(table, n, &tape[..t])
+    walk_entries(table, n, session, log, tape)
 }
 
 // Numbers 7 and 8, which are put to what every call is lent, or 0.
