@@ -54,15 +54,15 @@ module _ (g : Given) (k : ℕ) where
       let r : Room = room (g .log) (g .tape) in
       unchanged (callNumber g) (stateGiven g) g (λ m. wind way T r c m) (λ m. wind-is-stop way T r c m) k e
 
-  pub move-refused : (m : Move) → callNumber g ≡ some k → (c : ℕ) → outcomeOf m g c ≡ refusedOutcome k g
+  pub move-refused : (m : Move) → callNumber g ≡ some k → outcomeOf m g ≡ refusedOutcome k g
   unfolding goToOf
-  move-refused (by way) e c = wind-refused way e c
-  move-refused go-to e q = either-way (λ o. o ≡ refusedOutcome k g) (leb (g .session .position) q) _ _ (λ i. wind-refused forward e _) (λ i. wind-refused back e _)
+  move-refused (by way c) e = wind-refused way e c
+  move-refused (go-to q) e = either-way (λ o. o ≡ refusedOutcome k g) (leb (g .session .position) q) _ _ (λ i. wind-refused forward e _) (λ i. wind-refused back e _)
 
-  pub refused-unchanged : (m : Move) (c : ℕ) → outcomeOf m g c .stop ≡ refused k → RefusedCall g (outcomeOf m g c)
+  pub refused-unchanged : (m : Move) → outcomeOf m g .stop ≡ refused k → RefusedCall g (outcomeOf m g)
   unfolding goToOf
-  refused-unchanged (by way) c e = wind-unchanged way c e
-  refused-unchanged go-to q e =
+  refused-unchanged (by way c) e = wind-unchanged way c e
+  refused-unchanged (go-to q) e =
       either-way (λ o. o .stop ≡ refused k → RefusedCall g o) (leb (g .session .position) q) _ _ (λ i. wind-unchanged forward _) (λ i. wind-unchanged back _) e
 
 -- A call that enters at a state winds from it.

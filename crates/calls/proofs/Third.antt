@@ -119,11 +119,11 @@ module _ (w : List ℕ) (n : ℕ) (s₀ : State) (r : Room) where
           off : Off (tableIn w n) r s₀ c p 0 run
           off = rw zero-add at (back-off (tableIn w n) r s₀ facts (b .good) (b .fits) c 0 t (λ l. refl))
 
-      own-takes : (m : Move) (c : ℕ) → Takes (GoesBack m c p) p (positionBy (tableIn w n) s₀ r m c p) (outcomeOf m (givenTo u n (laidDown r (moment s p))) c)
+      own-takes : (m : Move) → Takes (GoesBack m p) p (positionBy (tableIn w n) s₀ r m p) (outcomeOf m (givenTo u n (laidDown r (moment s p))))
       unfolding goToOf
-      own-takes (by forward) c = forward-takes ⊥ (λ x. x) c
-      own-takes (by back) c = back-takes Unit c
-      own-takes go-to q =
+      own-takes (by forward c) = forward-takes ⊥ (λ x. x) c
+      own-takes (by back c) = back-takes Unit c
+      own-takes (go-to q) =
           by-side (leb p q) _ _ _ _
           (λ e. forward-takes (q < p) (λ h. let l : p ≤ q = leb-true p q e in omega arith) (q - p))
           (λ e. back-takes (q < p) (p - q))
@@ -134,8 +134,8 @@ module _ (w : List ℕ) (n : ℕ) (s₀ : State) (r : Room) where
           by-side false i j x y f h = h refl
 
     -- The list.
-    own-call : (m : Move) (c p q : ℕ) (o : Outcome) → Takes (GoesBack m c p) p q o → OwnCall p q m c o
-    own-call m c p q o h = record {
+    own-call : (m : Move) (p q : ℕ) (o : Outcome) → Takes (GoesBack m p) p q o → OwnCall p q m o
+    own-call m p q o h = record {
       steps-are = h .steps-are;
       unrefused = λ k e. subst IsStop e (h .is-stop);
       back-unjammed = λ g e. subst Unhindered e (h .unhindered g);
@@ -146,17 +146,17 @@ module _ (w : List ℕ) (n : ℕ) (s₀ : State) (r : Room) where
     pub demanded : (cs : List Call) (p : ℕ) (st : Standing) → OnTrail p st → AllPermitted w n cs → Demanded (tableIn w n) s₀ r n cs p st
     unfolding Demanded
     demanded [] p st h a = as-plain p st h
-    demanded (own m c u ∷ cs) p st h a = (as-plain p st h, own-call m c p q out taken, demanded cs q (leftBy out) (taken .stands) (a .1))
+    demanded (own m u ∷ cs) p st h a = (as-plain p st h, own-call m p q out taken, demanded cs q (leftBy out) (taken .stands) (a .1))
       where
         q : ℕ
-        q = positionBy (tableIn w n) s₀ r m c p
+        q = positionBy (tableIn w n) s₀ r m p
 
         out : Outcome
-        out = outcomeOf m (givenTo u n st) c
+        out = outcomeOf m (givenTo u n st)
 
-        taken : Takes (GoesBack m c p) p q out
-        taken = rw (h .laid) (own-takes u (a .0) p (h .state) (h .trail) m c)
-    demanded (other m c g ∷ cs) p st h a = (as-plain p st h, refused-unchanged g (a .0 .0) m c (a .0 .1), demanded cs p st h (a .1))
+        taken : Takes (GoesBack m p) p q out
+        taken = rw (h .laid) (own-takes u (a .0) p (h .state) (h .trail) m)
+    demanded (other m g ∷ cs) p st h a = (as-plain p st h, refused-unchanged g (a .0 .0) m (a .0 .1), demanded cs p st h (a .1))
 
 -- The list begins with what open left.
 module _ (w : List ℕ) (n : ℕ) (ls ts : List ℕ) (A : Accepted w n) (h : length ls ≤ longest) (k : length ts ≤ longest) where

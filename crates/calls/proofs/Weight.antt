@@ -154,10 +154,10 @@ wind-light g way c = by-number (callNumber g) refl
         (moment s (g .session .position)) (held-fits (tableIn (g .table) (g .n)) (record { session = g .session; log = g .log; tape = g .tape }) s (h .holds)))
 
 -- Every peak fits its word, whatever the call is given.
-pub peak-light : (m : Move) (g : Given) (c : ℕ) → outcomeOf m g c .peak ≤ heaviest
+pub peak-light : (m : Move) (g : Given) → outcomeOf m g .peak ≤ heaviest
 unfolding goToOf
-peak-light (by way) g c = wind-light g way c
-peak-light go-to g q = either-way (λ o. o .peak ≤ heaviest) (leb (g .session .position) q) _ _ (λ i. wind-light g forward _) (λ i. wind-light g back _)
+peak-light (by way c) g = wind-light g way c
+peak-light (go-to q) g = either-way (λ o. o .peak ≤ heaviest) (leb (g .session .position) q) _ _ (λ i. wind-light g forward _) (λ i. wind-light g back _)
 
 -- The outcome is that of a run this way from the state given, and its peak the greatest weight over the states stood in, first and last included.
 abbrev pub PeakOver : Given → State → Way → Outcome → Type 0

@@ -15,23 +15,23 @@ use Rattle.calls.specs.Calls.{longest, sessionAt, logSlice, tapeSlice, o
 
 -- The calls of a list: by a count forward or back, and go-to.
 pub data Move : Type 0 where
-  by : Way → Move
-  go-to : Move
+  by : Way → ℕ → Move
+  go-to : ℕ → Move
 
 -- A call of the list: its own gets the session and slices that stand, and brings a slice that has the opened table;
 -- another's gets whatever it is given.
 pub data Call : Type 0 where
-  own : Move → ℕ → List ℕ → Call
-  other : Move → ℕ → Given → Call
+  own : Move → List ℕ → Call
+  other : Move → Given → Call
 
-abbrev pub outcomeOf : Move → Given → ℕ → Outcome
-outcomeOf (by way) g c = windOf way g c
-outcomeOf go-to g q = goToOf g q
+abbrev pub outcomeOf : Move → Given → Outcome
+outcomeOf (by way c) g = windOf way g c
+outcomeOf (go-to q) g = goToOf g q
 
 -- "A call given another table, another n, another session or other slices stands there only as a refused one."
 abbrev pub Permitted : List ℕ → ℕ → Call → Type 0
-Permitted w n (own m c u) = take (5 * n) u ≡ take (5 * n) w
-Permitted w n (other m c g) = (k : ℕ) × (outcomeOf m g c .stop ≡ refused k)
+Permitted w n (own m u) = take (5 * n) u ≡ take (5 * n) w
+Permitted w n (other m g) = (k : ℕ) × (outcomeOf m g .stop ≡ refused k)
 
 abbrev pub AllPermitted : List ℕ → ℕ → List Call → Type 0
 AllPermitted w n [] = Unit
@@ -54,22 +54,22 @@ givenTo u n st = record { table = u; n = n; session = st .session; log = st .log
 
 -- "The list goes on with what stood before" a refused call, and with what each of its own left.
 abbrev pub standingAfter : ℕ → Standing → Call → Standing
-standingAfter n st (own m c u) = leftBy (outcomeOf m (givenTo u n st) c)
-standingAfter n st (other m c g) = st
+standingAfter n st (own m u) = leftBy (outcomeOf m (givenTo u n st))
+standingAfter n st (other m g) = st
 
 -- a call that goes back from p
-abbrev pub GoesBack : Move → ℕ → ℕ → Type 0
-GoesBack (by forward) c p = ⊥
-GoesBack (by back) c p = Unit
-GoesBack go-to q p = q < p
+abbrev pub GoesBack : Move → ℕ → Type 0
+GoesBack (by forward c) p = ⊥
+GoesBack (by back c) p = Unit
+GoesBack (go-to q) p = q < p
 
 -- A call of the list's own answers the steps that it added to p or took off; it is not refused, and going back it ends in no jam and no full slice.
-pub record OwnCall (p q : ℕ) (m : Move) (c : ℕ) (o : Outcome) : Type 0 where
+pub record OwnCall (p q : ℕ) (m : Move) (o : Outcome) : Type 0 where
   pub steps-are : o .steps ≡ (q - p) + (p - q)
   pub unrefused : (k : ℕ) → o .stop ≡ refused k → ⊥
-  pub back-unjammed : GoesBack m c p → o .stop ≡ jam → ⊥
-  pub back-log-fits : GoesBack m c p → o .stop ≡ logFull → ⊥
-  pub back-tape-fits : GoesBack m c p → o .stop ≡ tapeFull → ⊥
+  pub back-unjammed : GoesBack m p → o .stop ≡ jam → ⊥
+  pub back-log-fits : GoesBack m p → o .stop ≡ logFull → ⊥
+  pub back-tape-fits : GoesBack m p → o .stop ≡ tapeFull → ⊥
 
 -- A refused call gives back the session and both slices that it was given, word for word, and makes no step.
 pub record RefusedCall (g : Given) (o : Outcome) : Type 0 where
@@ -91,14 +91,14 @@ module _ (T : Table) (s₀ : State) (r : Room) where
   allowed (suc count) p = ifSome (stopAfter (suc count) p) (λ x. 0) (λ _. suc (allowed count (suc p)))
 
   -- Where a call of the list's own takes p: a call back by m takes off min m p, and go-to is the one or the other.
-  abbrev pub positionBy : Move → ℕ → ℕ → ℕ
-  positionBy (by forward) c p = p + allowed c p
-  positionBy (by back) c p = p - min c p
-  positionBy go-to q p = choose (leb p q) (λ _. p + allowed (q - p) p) (λ _. p - min (p - q) p)
+  abbrev pub positionBy : Move → ℕ → ℕ
+  positionBy (by forward c) p = p + allowed c p
+  positionBy (by back c) p = p - min c p
+  positionBy (go-to q) p = choose (leb p q) (λ _. p + allowed (q - p) p) (λ _. p - min (p - q) p)
 
   abbrev pub positionAfter : ℕ → Call → ℕ
-  positionAfter p (own m c u) = positionBy m c p
-  positionAfter p (other m c g) = p
+  positionAfter p (own m u) = positionBy m p
+  positionAfter p (other m g) = p
 
   -- The session and every word of both slices are those of the plain machine after p steps.
   pub record AsPlain (p : ℕ) (st : Standing) : Type 0 where
@@ -109,8 +109,8 @@ module _ (T : Table) (s₀ : State) (r : Room) where
     pub tape-is : st .tape ≡ tapeSlice r (moment state p)
 
   abbrev pub AsDemanded : ℕ → ℕ → Standing → Call → Type 0
-  AsDemanded n p st (own m c u) = OwnCall p (positionBy m c p) m c (outcomeOf m (givenTo u n st) c)
-  AsDemanded n p st (other m c g) = RefusedCall g (outcomeOf m g c)
+  AsDemanded n p st (own m u) = OwnCall p (positionBy m p) m (outcomeOf m (givenTo u n st))
+  AsDemanded n p st (other m g) = RefusedCall g (outcomeOf m g)
 
   -- Before each call of the list and after the last, what stands is the plain machine's after p steps, p being counted as above.
   unfoldable pub Demanded : ℕ → List Call → ℕ → Standing → Type 0

@@ -17,16 +17,16 @@ use Rattle.face.proofs.Refusals.{refusal-gives-back}
 -- the calls of its own, as the third demand has them
 abbrev owns : List HostCall → List Call
 owns [] = []
-owns (own m c u ∷ cs) = Demand.own m c u ∷ owns cs
-owns (other m c u k h ∷ cs) = owns cs
+owns (own m u ∷ cs) = Demand.own m u ∷ owns cs
+owns (other m u k h ∷ cs) = owns cs
 
 permitted : (w : List ℕ) (n : ℕ) (cs : List HostCall) → AllPermittedCalls w n cs → AllPermitted w n (owns cs)
 permitted w n [] a = tt
-permitted w n (own m c u ∷ cs) a = (a .0, permitted w n cs (a .1))
-permitted w n (other m c u k h ∷ cs) a = permitted w n cs (a .1)
+permitted w n (own m u ∷ cs) a = (a .0, permitted w n cs (a .1))
+permitted w n (other m u k h ∷ cs) a = permitted w n cs (a .1)
 
-answered : (m : Move) (c : ℕ) (u : List ℕ) (n : ℕ) (st : Standing) → answerTo m c u n (keptOf st) ≡ outcomeTold (outcomeOf m (givenTo u n st) c)
-answered m c u n st = told-again (λ g. outcomeOf m g c) u n (st .session) (st .log) (st .tape)
+answered : (m : Move) (u : List ℕ) (n : ℕ) (st : Standing) → answerTo m u n (keptOf st) ≡ outcomeTold (outcomeOf m (givenTo u n st))
+answered m u n st = told-again (λ g. outcomeOf m g) u n (st .session) (st .log) (st .tape)
 
 module _ (T : Table) (s₀ : State) (r : Room) (n : ℕ) where
   stands : (cs : List Call) (p : ℕ) (st : Standing) → Demanded T s₀ r n cs p st → AsPlain T s₀ r p st
@@ -38,16 +38,16 @@ module _ (T : Table) (s₀ : State) (r : Room) (n : ℕ) where
       → HostDemanded T s₀ r n cs p (keptOf st)
   unfolding Demanded HostDemanded
   told-demanded w [] p st a d = (st, d, refl)
-  told-demanded w (own m c u ∷ cs) p st a d =
-      let o : Outcome = outcomeOf m (givenTo u n st) c in
-      let goes-on : keptOf (leftBy o) ≡ keptBy (answerTo m c u n (keptOf st)) = sym (ap keptBy (answered m c u n st)) in (
+  told-demanded w (own m u ∷ cs) p st a d =
+      let o : Outcome = outcomeOf m (givenTo u n st) in
+      let goes-on : keptOf (leftBy o) ≡ keptBy (answerTo m u n (keptOf st)) = sym (ap keptBy (answered m u n st)) in (
         (st, d .0, refl),
-        (o, d .1, answered m c u n st),
-        subst (λ h. HostDemanded T s₀ r n cs (positionBy T s₀ r m c p) h) goes-on (told-demanded w cs (positionBy T s₀ r m c p) (leftBy o) (a .1) (d .2)),
+        (o, d .1, answered m u n st),
+        subst (λ h. HostDemanded T s₀ r n cs (positionBy T s₀ r m p) h) goes-on (told-demanded w cs (positionBy T s₀ r m p) (leftBy o) (a .1) (d .2)),
       )
-  told-demanded w (other m c u k h ∷ cs) p st a d = (
+  told-demanded w (other m u k h ∷ cs) p st a d = (
     (st, stands (owns cs) p st d, refl),
-    (answerTo m c u k h .0 .value, refusal-gives-back m c u k (h .session) (h .log) (h .tape) (a .0)),
+    (answerTo m u k h .0 .value, refusal-gives-back m u k (h .session) (h .log) (h .tape) (a .0)),
     told-demanded w cs p st (a .1) d,
   )
 

@@ -49,14 +49,14 @@ code-7 : (x : Stop) → stopCode x ≡ 7 → x ≡ refused (stopValue x)
 code-7 x e = codes-injective x (refused (stopValue x)) e refl
 
 -- Forward, back and go-to, whatever the number.
-module _ (m : Move) (c : ℕ) (w : List ℕ) (n : ℕ) (s : HostSession) (ls ts : List ℕ) where
-  on-session : (o : Option Session) → ((se : Session) → o ≡ some se → sessionNumbers se ≡ s) → calledOn o (λ g. outcomeOf m g c) w n s ls ts .0 .stop ≡ 7
-      → calledOn o (λ g. outcomeOf m g c) w n s ls ts ≡ refusedTold (calledOn o (λ g. outcomeOf m g c) w n s ls ts .0 .value) s ls ts
+module _ (m : Move) (w : List ℕ) (n : ℕ) (s : HostSession) (ls ts : List ℕ) where
+  on-session : (o : Option Session) → ((se : Session) → o ≡ some se → sessionNumbers se ≡ s) → calledOn o (λ g. outcomeOf m g) w n s ls ts .0 .stop ≡ 7
+      → calledOn o (λ g. outcomeOf m g) w n s ls ts ≡ refusedTold (calledOn o (λ g. outcomeOf m g) w n s ls ts .0 .value) s ls ts
   on-session none same e = refl
   on-session (some se) same e =
       let g : Given = record { table = w; n = n; session = se; log = ls; tape = ts } in
-      let o : Outcome = outcomeOf m g c in
-      let unchanged : RefusedCall g o = refused-unchanged g (stopValue (o .stop)) m c (code-7 (o .stop) e) in
+      let o : Outcome = outcomeOf m g in
+      let unchanged : RefusedCall g o = refused-unchanged g (stopValue (o .stop)) m (code-7 (o .stop) e) in
       λ i. (
         record {
           session = (ap sessionNumbers (unchanged .session-is) ∙ same se refl) i;
@@ -70,7 +70,7 @@ module _ (m : Move) (c : ℕ) (w : List ℕ) (n : ℕ) (s : HostSession) (ls ts 
         unchanged .tape-is i,
       )
 
-  pub refusal-gives-back : called (λ g. outcomeOf m g c) w n s ls ts .0 .stop ≡ 7
-      → called (λ g. outcomeOf m g c) w n s ls ts ≡ refusedTold (called (λ g. outcomeOf m g c) w n s ls ts .0 .value) s ls ts
+  pub refusal-gives-back : called (λ g. outcomeOf m g) w n s ls ts .0 .stop ≡ 7
+      → called (λ g. outcomeOf m g) w n s ls ts ≡ refusedTold (called (λ g. outcomeOf m g) w n s ls ts .0 .value) s ls ts
   unfolding called
   refusal-gives-back e = on-session (sessionIn s) (numbers-told s) e

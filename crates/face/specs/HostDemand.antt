@@ -29,16 +29,16 @@ keptOf st = record { session = sessionNumbers (st .session); log = st .log; tape
 
 -- A call of the list: its own gets what the host keeps, and brings a slice that has the opened table; another's gets whatever it is handed.
 pub data HostCall : Type 0 where
-  own : Move → ℕ → List ℕ → HostCall
-  other : Move → ℕ → List ℕ → ℕ → Kept → HostCall
+  own : Move → List ℕ → HostCall
+  other : Move → List ℕ → ℕ → Kept → HostCall
 
-abbrev pub answerTo : Move → ℕ → List ℕ → ℕ → Kept → HostOutcome × List ℕ × List ℕ
-answerTo m c w n h = called (λ g. outcomeOf m g c) w n (h .session) (h .log) (h .tape)
+abbrev pub answerTo : Move → List ℕ → ℕ → Kept → HostOutcome × List ℕ × List ℕ
+answerTo m w n h = called (λ g. outcomeOf m g) w n (h .session) (h .log) (h .tape)
 
 -- its own as the third demand has it; another's stands there only as a refused one (7 is the code of a refusal)
 abbrev pub PermittedCall : List ℕ → ℕ → HostCall → Type 0
-PermittedCall w n (own m c u) = Permitted w n (Demand.own m c u)
-PermittedCall w n (other m c u k h) = answerTo m c u k h .0 .stop ≡ 7
+PermittedCall w n (own m u) = Permitted w n (Demand.own m u)
+PermittedCall w n (other m u k h) = answerTo m u k h .0 .stop ≡ 7
 
 abbrev pub AllPermittedCalls : List ℕ → ℕ → List HostCall → Type 0
 AllPermittedCalls w n [] = Unit
@@ -52,13 +52,13 @@ keptBy a = record { session = a .0 .session; log = a .1; tape = a .2 }
 
 -- "the list goes on with what stood before" a refused call, and with what each of its own left
 abbrev pub keptAfter : ℕ → Kept → HostCall → Kept
-keptAfter n h (own m c u) = keptBy (answerTo m c u n h)
-keptAfter n h (other m c u k g) = h
+keptAfter n h (own m u) = keptBy (answerTo m u n h)
+keptAfter n h (other m u k g) = h
 
 module _ (T : Table) (s₀ : State) (r : Room) where
   abbrev pub positionAfterCall : ℕ → HostCall → ℕ
-  positionAfterCall p (own m c u) = positionBy T s₀ r m c p
-  positionAfterCall p (other m c u k g) = p
+  positionAfterCall p (own m u) = positionBy T s₀ r m p
+  positionAfterCall p (other m u k g) = p
 
   -- the numbers and every word of both slices are those of the plain machine after p steps
   abbrev pub KeptAsPlain : ℕ → Kept → Type 0
@@ -66,8 +66,8 @@ module _ (T : Table) (s₀ : State) (r : Room) where
 
   -- A call of the list's own tells an outcome as the third demand has it; a refused one gives back what it was handed.
   abbrev pub ToldAsDemanded : ℕ → ℕ → Kept → HostCall → Type 0
-  ToldAsDemanded n p h (own m c u) = (o : Outcome) × OwnCall p (positionBy T s₀ r m c p) m c o × (answerTo m c u n h ≡ outcomeTold o)
-  ToldAsDemanded n p h (other m c u k g) = (x : ℕ) × (answerTo m c u k g ≡ refusedTold x (g .session) (g .log) (g .tape))
+  ToldAsDemanded n p h (own m u) = (o : Outcome) × OwnCall p (positionBy T s₀ r m p) m o × (answerTo m u n h ≡ outcomeTold o)
+  ToldAsDemanded n p h (other m u k g) = (x : ℕ) × (answerTo m u k g ≡ refusedTold x (g .session) (g .log) (g .tape))
 
   unfoldable pub HostDemanded : ℕ → List HostCall → ℕ → Kept → Type 0
   HostDemanded n [] p h = KeptAsPlain p h

@@ -44,26 +44,26 @@ given-told s o back = ap (λ z. toldWith z o) (by-stop (o .stop) refl)
     by-stop tapeFull e = refl
     by-stop (refused k) e = sym (back k e)
 
-module _ (m : Move) (c : ℕ) (w : List ℕ) (n : ℕ) (s : HostSession) (ls ts : List ℕ) where
+module _ (m : Move) (w : List ℕ) (n : ℕ) (s : HostSession) (ls ts : List ℕ) where
   abbrev given : ℕ → Given
   given d = record { table = w; n = n; session = madeWith (toward s d); log = ls; tape = ts }
 
-  given-as : (d : ℕ) → sessionNumbers (madeWith (toward s d)) ≡ toward s d → givenBack (toward s d) (outcomeOf m (given d) c) ≡ outcomeTold (outcomeOf m (given d) c)
-  given-as d same = given-told (toward s d) (outcomeOf m (given d) c) (λ k e. ap sessionNumbers (refused-unchanged (given d) k m c e .session-is) ∙ same)
+  given-as : (d : ℕ) → sessionNumbers (madeWith (toward s d)) ≡ toward s d → givenBack (toward s d) (outcomeOf m (given d)) ≡ outcomeTold (outcomeOf m (given d))
+  given-as d same = given-told (toward s d) (outcomeOf m (given d)) (λ k e. ap sessionNumbers (refused-unchanged (given d) k m e .session-is) ∙ same)
 
-  by-direction : (d : ℕ) → called (λ g. outcomeOf m g c) w n (toward s d) ls ts ≡ givenBack (toward s d) (outcomeOf m (given d) c)
+  by-direction : (d : ℕ) → called (λ g. outcomeOf m g) w n (toward s d) ls ts ≡ givenBack (toward s d) (outcomeOf m (given d))
   unfolding called
   by-direction zero = sym (given-as zero refl)
   by-direction (suc zero) = sym (given-as (suc zero) refl)
   by-direction (suc (suc k)) =
       let nowhere-0 : given (suc (suc k)) .session .node ≡ 0 = rw (lt-ltb 1 (suc (suc k)) (omega arith)) in
-      sym (ap (givenBack (toward s (suc (suc k)))) (move-refused (given (suc (suc k))) (noSessionNumber w n ls ts) m (nowhere (given (suc (suc k))) nowhere-0) c))
+      sym (ap (givenBack (toward s (suc (suc k)))) (move-refused (given (suc (suc k))) (noSessionNumber w n ls ts) m (nowhere (given (suc (suc k))) nowhere-0)))
 
-  called-so : called (λ g. outcomeOf m g c) w n s ls ts ≡ givenBack s (outcomeOf m (given (s .direction)) c)
+  called-so : called (λ g. outcomeOf m g) w n s ls ts ≡ givenBack s (outcomeOf m (given (s .direction)))
   called-so = by-direction (s .direction)
 
   -- as the code goes about it
   pub told-so : {r : HostOutcome × List ℕ × List ℕ} {o : Outcome} {se : Session} → r ≡ givenBack s o
-      → o ≡ outcomeOf m (record { table = w; n = n; session = se; log = ls; tape = ts }) c → se ≡ madeWith s
-      → r ≡ called (λ g. outcomeOf m g c) w n s ls ts
-  told-so p q e = p ∙ ap (givenBack s) (q ∙ ap (λ z. outcomeOf m (record { table = w; n = n; session = z; log = ls; tape = ts }) c) e) ∙ sym called-so
+      → o ≡ outcomeOf m (record { table = w; n = n; session = se; log = ls; tape = ts }) → se ≡ madeWith s
+      → r ≡ called (λ g. outcomeOf m g) w n s ls ts
+  told-so p q e = p ∙ ap (givenBack s) (q ∙ ap (λ z. outcomeOf m (record { table = w; n = n; session = z; log = ls; tape = ts })) e) ∙ sym called-so

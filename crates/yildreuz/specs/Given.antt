@@ -17,9 +17,9 @@ use Rattle.face.specs.Told.{toldWith}
 
 -- the call of document 01 that winds
 abbrev pub moveMeant : Move → Demand.Move
-moveMeant Forward = by forward
-moveMeant Back = by back
-moveMeant GoTo = go-to
+moveMeant (Forward c) = by forward c
+moveMeant (Back c) = by back c
+moveMeant (GoTo q) = go-to q
 
 -- Numbers without a direction are taken to stand at node 0, which no table has, so that the call itself finds 7, 8 or 9.
 abbrev pub madeWith : HostSession → Session

@@ -72,11 +72,11 @@ pub extern "C" fn yildreuz_open(
     }
 }
 
-// Which of the calls that wind.
+// Which of the calls that wind, and its number.
 enum Move {
-    Forward,
-    Back,
-    GoTo,
+    Forward(u32),
+    Back(u32),
+    GoTo(u32),
 }
 
 // The call itself.
@@ -87,15 +87,14 @@ fn call_made(
     log: &mut [u32],
     tape: &mut [u32],
     m: Move,
-    number: u32,
 ) -> Outcome
     ensures { λ r. ⌜ outcomeMeant r (now (log .exit)) (now (tape .exit))
-        ≡ outcomeOf (moveMeant m) (lent (now (table .entry)) n session (now (log .entry)) (now (tape .entry))) number ⌝ }
+        ≡ outcomeOf (moveMeant m) (lent (now (table .entry)) n session (now (log .entry)) (now (tape .entry))) ⌝ }
 {
     match m {
-        Move::Forward => session::forward(table, n, session, log, tape, number),
-        Move::Back => session::back(table, n, session, log, tape, number),
-        Move::GoTo => session::go_to(table, n, session, log, tape, number),
+        Move::Forward(count) => session::forward(table, n, session, log, tape, count),
+        Move::Back(count) => session::back(table, n, session, log, tape, count),
+        Move::GoTo(position) => session::go_to(table, n, session, log, tape, position),
     }
 }
 
@@ -107,13 +106,12 @@ fn call(
     log: &mut [u32],
     tape: &mut [u32],
     m: Move,
-    number: u32,
 ) -> HostOutcome
     ensures { λ r. ⌜ (r, now (log .exit), now (tape .exit))
-        ≡ called (λ g. outcomeOf (moveMeant m) g number) (now (table .entry)) n session (now (log .entry)) (now (tape .entry)) ⌝ }
+        ≡ called (λ g. outcomeOf (moveMeant m) g) (now (table .entry)) n session (now (log .entry)) (now (tape .entry)) ⌝ }
 {
     let s = made_with(session);
-    let o = call_made(table, n, s, log, tape, m, number);
+    let o = call_made(table, n, s, log, tape, m);
     given_back(session, o)
 }
 
@@ -129,7 +127,7 @@ pub extern "C" fn yildreuz_forward(
     ensures { λ r. ⌜ (r, now (log .exit), now (tape .exit))
         ≡ called (λ g. forwardOf g count) (now (table .entry)) n session (now (log .entry)) (now (tape .entry)) ⌝ }
 {
-    call(table, n, session, log, tape, Move::Forward, count)
+    call(table, n, session, log, tape, Move::Forward(count))
 }
 
 #[no_mangle]
@@ -144,7 +142,7 @@ pub extern "C" fn yildreuz_back(
     ensures { λ r. ⌜ (r, now (log .exit), now (tape .exit))
         ≡ called (λ g. backOf g count) (now (table .entry)) n session (now (log .entry)) (now (tape .entry)) ⌝ }
 {
-    call(table, n, session, log, tape, Move::Back, count)
+    call(table, n, session, log, tape, Move::Back(count))
 }
 
 #[no_mangle]
@@ -159,7 +157,7 @@ pub extern "C" fn yildreuz_go_to(
     ensures { λ r. ⌜ (r, now (log .exit), now (tape .exit))
         ≡ called (λ g. goToOf g position) (now (table .entry)) n session (now (log .entry)) (now (tape .entry)) ⌝ }
 {
-    call(table, n, session, log, tape, Move::GoTo, position)
+    call(table, n, session, log, tape, Move::GoTo(position))
 }
 
 // Where the top entry lies in the lent slice. The number goes out through `refusal`.

@@ -25,7 +25,7 @@ returns c =
     let called = c .before .before .before .before .before in
     let made = called .before .before .before in
     let a = made .before .before .before .before .args in
-    told-so (moveMeant (a .m)) (a .number) (a .table .now) (a .n) (a .session) (a .log .now) (a .tape .now) (c .given-back .ensures _ _) (called .call-made .ensures) (made .made-with .ensures)
+    told-so (moveMeant (a .m)) (a .table .now) (a .n) (a .session) (a .log .now) (a .tape .now) (c .given-back .ensures _ _) (called .call-made .ensures) (made .made-with .ensures)
 
 pub call-spec : {M : Type 1} → statement M
 call-spec = tie.close (tie.spec made-with-requires call-made-requires given-back-requires same-length same-length-2 returns)
