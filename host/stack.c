@@ -27,6 +27,9 @@ static void *forward(void *unused) { session = yildreuz_forward(table, TABLE, n,
 static void *back(void *unused) { session = yildreuz_back(table, TABLE, n, session, ALL_SLICES, 10000).session; return unused; }
 static void *tops(void *unused) { uint32_t refusal; yildreuz_top(table, TABLE, n, session, ALL_SLICES, YILDREUZ_TAPE, &refusal); return unused; }
 static void *goes_to(void *unused) { session = yildreuz_go_to(table, TABLE, n, session, ALL_SLICES, 0).session; return unused; }
+static void *forward_to(void *unused) { session = yildreuz_forward_to(table, TABLE, n, session, ALL_SLICES, 1, YILDREUZ_UP, 20000).session; return unused; }
+static void *none_back(void *unused) { session = yildreuz_back_to(table, TABLE, n, session, ALL_SLICES, 1, YILDREUZ_UP).session; return unused; }
+static void *back_to(void *unused) { session = yildreuz_back_to(table, TABLE, n, session, ALL_SLICES, 1, YILDREUZ_DOWN).session; return unused; }
 
 /* Bytes that a thread touches of a stack painted before. */
 static size_t touched(void *(*call)(void *))
@@ -53,7 +56,7 @@ static int failed;
 static void measure(const char *name, const char *on, void *(*call)(void *), size_t most)
 {
     size_t used = touched(call) - touched(nothing);
-    printf("%-8s %-36s %7lu of %lu bytes\n", name, on, (unsigned long)used, (unsigned long)most);
+    printf("%-13s %-36s %7lu of %lu bytes\n", name, on, (unsigned long)used, (unsigned long)most);
     failed |= used > most;
 }
 
@@ -84,6 +87,9 @@ static void measure_calls(const char *on)
     measure("back", on, back, YILDREUZ_CALL_STACK);
     measure("top", on, tops, YILDREUZ_CALL_STACK);
     measure("go_to", on, goes_to, YILDREUZ_CALL_STACK);
+    measure("forward_to", on, forward_to, YILDREUZ_CALL_STACK);
+    measure("back_to, none", on, none_back, YILDREUZ_CALL_STACK);
+    measure("back_to", on, back_to, YILDREUZ_CALL_STACK);
 }
 
 /* 2,999 abstractions over a variable: deeper than any text. */
@@ -107,7 +113,7 @@ int main(void)
     measure_calls("abstractions");
     measure_reading("arguments in arguments", "(\\x.x x)(", "\\x.x", ")");
     measure_calls("arguments in arguments");
-    measure_reading("functions of functions", "(\\x.x)", "\\x.x", "");
+    measure_reading("functions of functions", "(\\x.x)", "(\\x.x)", "");
     measure_calls("functions of functions");
     deepest_table();
     measure_calls("2,999 abstractions");

@@ -12,7 +12,8 @@ static uint8_t text[YILDREUZ_MOST_BYTES + 1]; /* one byte more than a text may h
 static uint32_t table[5 * YILDREUZ_MOST_NODES], log_words[ROOM], tape_words[ROOM];
 static uint32_t n;
 
-static const char *const stop_names[] = {"spent", "answer", "jam", "far", "start", "log full", "tape full", "refused"};
+static const char *const stop_names[] = {"spent", "answer", "jam", "far", "start", "log full", "tape full", "refused",
+                                         "found", "none"};
 
 static void print_list(char name, const uint32_t *words, uint32_t len)
 {

@@ -1,6 +1,6 @@
 /* Yildreuz for C and C++: reads a closed lambda-term and writes it back as text, opens a session on it, moves a token over
-   the term, forward, back or to a position, and points at the newest entry that the token carries. Link libyildreuz.a
-   (x86-64 Linux), which needs memset of the C library and nothing else.
+   the term, forward, back, to a position or to the last or next visit of a node, and points at the newest entry that the
+   token carries. Link libyildreuz.a (x86-64 Linux), which needs memset of the C library and nothing else.
 
    Who owns what. Every byte and word is the caller's. A call borrows text, table, log and tape while it runs: it keeps
    no pointer, allocates nothing, and has no state of its own, so calls that write different slices may run at the same
@@ -21,19 +21,23 @@
      3  it has a name over 8 bytes, or one that          or no closed term has it
         starts with a digit                           8  log or tape has more than 16,384 words
      4  it is not a term                              9  the session, log and tape hold no state of the machine, or
-     5  it has a name without a binder                   the direction is neither 0 nor 1
+     5  it has a name without a binder                   the session's direction is neither 0 nor 1
                                                      10  the chosen list is empty, or none is chosen
                                                      11  the term's text has more than 3,000 bytes, or more than are lent
-   The numbers are tested in their order: 1 to 6 by read, 7 and 8 by open, 7 to 9 by forward, back and go_to, 7 to 10 by
-   top, and 7 and 11 by write.
+                                                     12  the node to be visited is 0 or over n, or the direction of
+                                                         the visit is neither 0 nor 1
+   The numbers are tested in their order: 1 to 6 by read, 7 and 8 by open, 7 to 9 by forward, back and go_to, 7 to 9 and
+   12 by back_to and forward_to, 7 to 10 by top, and 7 and 11 by write.
 
-   What holds after every list of calls. Open a session on a table that was read, and hand each call of forward, back and
-   go_to the session, log and tape that the one before left: then these are, word for word, those of the machine after as
-   many steps as the position says, however the calls were mixed. This is proved, as is every answer of every call.
+   What holds after every list of calls. Open a session on a table that was read, and hand each call of forward, back,
+   go_to, back_to and forward_to the session, log and tape that the one before left: then these are, word for word, those
+   of the machine after as many steps as the position says, however the calls were mixed. This is proved, as is every
+   answer of every call.
 
    How long a call takes. Each call ends; it first looks over the whole table and both slices, and then makes its steps,
    which may be billions where the count, or the way to the position, is that long. A viewer that must stay awake winds
-   in pieces, and one that winds far does so by large counts rather than by many small ones.
+   in pieces, and one that winds far does so by large counts rather than by many small ones. back_to has no count: it may
+   wind back to position 0, and forward again where there is no visit, however great the position is.
 
    Stack. A call needs no more than the constants below say: measured on the deepest texts and tables that there are, and
    rounded up. */
@@ -61,7 +65,7 @@ enum { YILDREUZ_DOWN = 0, YILDREUZ_UP = 1 };
 /* The lists that the token carries. */
 enum { YILDREUZ_LOG = 0, YILDREUZ_TAPE = 1 };
 
-/* Why forward, back or go_to ended. */
+/* Why forward, back, go_to, back_to or forward_to ended. */
 enum {
     YILDREUZ_SPENT = 0,     /* every step asked for was made */
     YILDREUZ_ANSWER = 1,    /* down at an abstraction with an empty tape; value is its node */
@@ -70,7 +74,9 @@ enum {
     YILDREUZ_START = 4,     /* going back, at position 0 */
     YILDREUZ_LOG_FULL = 5,  /* the log slice has no room for the next step */
     YILDREUZ_TAPE_FULL = 6, /* the tape slice has none */
-    YILDREUZ_REFUSED = 7    /* nothing was done; value is the refusal's number */
+    YILDREUZ_REFUSED = 7,   /* nothing was done; value is the refusal's number */
+    YILDREUZ_FOUND = 8,     /* back_to or forward_to came to a visit of the node in the direction */
+    YILDREUZ_NONE = 9       /* back_to came to none; session, log and tape are as they were given */
 };
 
 /* What read answers. */
@@ -100,17 +106,18 @@ typedef struct yildreuz_opening {
     uint32_t refusal;         /* its number, 7 or 8, or 0 for none */
 } yildreuz_opening;
 
-/* What forward, back and go_to answer. */
+/* What forward, back, go_to, back_to and forward_to answer. */
 typedef struct yildreuz_outcome {
-    yildreuz_session session; /* where the token stands now; the one given in a refusal */
-    uint32_t steps;           /* steps made; 0 in a refusal */
-    uint32_t stop;            /* why it ended: YILDREUZ_SPENT to YILDREUZ_REFUSED */
+    yildreuz_session session; /* where the token stands now; the one given in a refusal and with YILDREUZ_NONE */
+    uint32_t steps;           /* steps made; 0 in a refusal and with YILDREUZ_NONE */
+    uint32_t stop;            /* why it ended: YILDREUZ_SPENT to YILDREUZ_NONE */
     uint32_t value;           /* the answer's node or the refusal's number; 0 with every other stop */
     uint32_t value2;          /* 0: no stop has a second value */
     uint32_t peak;            /* the greatest weight over the states stood in, first and last included: 1 for each
                                  bullet, and for each logged position, nested ones included, as many as n has binary
-                                 digits; at most 393,216, and 0 in a refusal. A session weighs so on its own slices:
-                                 each word 0 among the tape's counts 1, each other word of the two lists the digits */
+                                 digits; at most 393,216, and 0 in a refusal. With YILDREUZ_NONE it is the weight of
+                                 the state given alone. A session weighs so on its own slices: each word 0 among the
+                                 tape's counts 1, each other word of the two lists the digits */
 } yildreuz_outcome;
 
 /* What top answers: where the part lies in the slice that the caller lent for the chosen list. */
@@ -161,6 +168,26 @@ yildreuz_outcome yildreuz_back(const uint32_t *table, size_t table_len, uint32_t
    Borrows, refuses, needs and leaves to the caller what yildreuz_forward does. */
 yildreuz_outcome yildreuz_go_to(const uint32_t *table, size_t table_len, uint32_t n, yildreuz_session session,
                                 uint32_t *log, size_t log_len, uint32_t *tape, size_t tape_len, uint32_t position);
+
+/* Goes back to the last earlier position at which the token stood on the node in the direction, and ends there as
+   YILDREUZ_FOUND. The present position is not an earlier one. Where no position from 0 to the present less one is such,
+   it ends as YILDREUZ_NONE, and gives back the session and every word of log and tape as they were; elsewhere than after
+   such a list of calls as the top of this file speaks of, a jam or a full slice on the way back means none too, and the
+   positions are those that the session has. It has no other stop but YILDREUZ_REFUSED.
+   Borrows, needs and leaves to the caller what yildreuz_forward does, and refuses as it does, with 7 to 9 or 12, of which
+   12 is also for a direction other than 0 and 1. */
+yildreuz_outcome yildreuz_back_to(const uint32_t *table, size_t table_len, uint32_t n, yildreuz_session session,
+                                  uint32_t *log, size_t log_len, uint32_t *tape, size_t tape_len,
+                                  uint32_t node, uint32_t direction);
+
+/* Goes forward to the next later position at which the token stands on the node in the direction, and ends there as
+   YILDREUZ_FOUND, before any other stop that there is at that state; the present position is not a later one. Where
+   forward by count reaches no such position, it ends where that ends, with its stop.
+   Borrows, needs and leaves to the caller what yildreuz_forward does, and refuses as it does, with 7 to 9 or 12, of which
+   12 is also for a direction other than 0 and 1. */
+yildreuz_outcome yildreuz_forward_to(const uint32_t *table, size_t table_len, uint32_t n, yildreuz_session session,
+                                     uint32_t *log, size_t log_len, uint32_t *tape, size_t tape_len,
+                                     uint32_t node, uint32_t direction, uint32_t count);
 
 /* Points at the newest entry of the log (which is YILDREUZ_LOG) or of the tape (YILDREUZ_TAPE): the words log[offset] to
    log[offset + len - 1], or those of tape, are that entry, its variable last and the entries inside it below. A bullet on

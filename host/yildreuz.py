@@ -14,6 +14,8 @@ and used so:
     part, refusal = lib.top(table, n, out.session, log, tape, yildreuz.LOG)
     newest = memoryview(log)[part.offset:part.offset + part.len]    # the newest log entry, no word of it copied: 7, 5
     home = lib.back(table, n, out.session, log, tape, out.steps)
+    there = lib.forward_to(table, n, home.session, log, tape, 2, yildreuz.UP, 100)    # there.stop FOUND, node 2 up at position 4
+    none = lib.back_to(table, n, there.session, log, tape, 2, yildreuz.UP)    # none.stop NONE: it had not been there before
     text = bytearray(yildreuz.MOST_BYTES)
     written = lib.write(table, n, text)    # text[:written.len] is now rb'(\\v2.v2 v2) (\\v6.v6)'
 
@@ -29,8 +31,8 @@ from typing import NamedTuple
 MOST_BYTES, MOST_NODES, LONGEST = 3000, 3000, 16384
 DOWN, UP = 0, 1
 LOG, TAPE = 0, 1
-SPENT, ANSWER, JAM, FAR, START, LOG_FULL, TAPE_FULL, REFUSED = range(8)
-STOP_NAMES = ('spent', 'answer', 'jam', 'far', 'start', 'log full', 'tape full', 'refused')
+SPENT, ANSWER, JAM, FAR, START, LOG_FULL, TAPE_FULL, REFUSED, FOUND, NONE = range(10)
+STOP_NAMES = ('spent', 'answer', 'jam', 'far', 'start', 'log full', 'tape full', 'refused', 'found', 'none')
 
 GREATEST = 4294967295  # of a position, a count and any other word
 
@@ -152,6 +154,8 @@ class Library:
         self._forward = self._call(lib.yildreuz_forward, _Outcome, winding)
         self._back = self._call(lib.yildreuz_back, _Outcome, winding)
         self._go_to = self._call(lib.yildreuz_go_to, _Outcome, winding)
+        self._back_to = self._call(lib.yildreuz_back_to, _Outcome, winding + [_WORD])
+        self._forward_to = self._call(lib.yildreuz_forward_to, _Outcome, winding + [_WORD, _WORD])
         self._top = self._call(lib.yildreuz_top, _Part, winding + [_WORDS])
 
     @staticmethod
@@ -186,6 +190,14 @@ class Library:
         """Goes forward or back to a position."""
         return self._wind(self._go_to, table, n, session, log, tape, position)
 
+    def back_to(self, table, n, session, log, tape, node, direction):
+        """Goes back to the last earlier position on a node, DOWN or UP; with none, session and slices stay."""
+        return self._wind(self._back_to, table, n, session, log, tape, node, direction)
+
+    def forward_to(self, table, n, session, log, tape, node, direction, count):
+        """Goes forward to the next later position on a node, DOWN or UP, or as forward by count does."""
+        return self._wind(self._forward_to, table, n, session, log, tape, node, direction, count)
+
     def top(self, table, n, session, log, tape, which):
         """Points at the newest entry of LOG or TAPE: the part of that buffer in which it lies, and a refusal's number."""
         table, log, tape = _lent(table, log, tape)
@@ -194,7 +206,7 @@ class Library:
         return Top(_told(Part, part), refusal.value)
 
     @staticmethod
-    def _wind(call, table, n, session, log, tape, number):
+    def _wind(call, table, n, session, log, tape, *numbers):
         table, log, tape = _lent(table, log, tape)
-        numbers = _Session(*map(_word, session))
-        return _told(Outcome, call(*table, _word(n), numbers, *log, *tape, _word(number)))
+        session = _Session(*map(_word, session))
+        return _told(Outcome, call(*table, _word(n), session, *log, *tape, *map(_word, numbers)))

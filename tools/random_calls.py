@@ -4,9 +4,9 @@
   tools/random_calls.py LIBRARY [CALLS [SEED]]
 
 Texts are closed terms, written with blanks and brackets that the grammar permits, and damaged ones; tables, slices and sessions are those that the calls
-left, and damaged ones; terms are written into about as many bytes as their texts have. Every number of every answer is compared, every word or byte of what
-is lent, and those that stand before and after it. At the end every stop and every refusal must have come up, from each call that gives it. First, what the
-wrapper itself must refuse.
+left, and damaged ones; terms are written into about as many bytes as their texts have; the visits looked for are mostly of nodes that the token comes to.
+Every number of every answer is compared, every word or byte of what is lent, and those that stand before and after it. At the end every stop and every
+refusal must have come up, from each call that gives it. First, what the wrapper itself must refuse.
 """
 import pathlib
 import random
@@ -21,6 +21,7 @@ import yildreuz  # noqa: E402
 
 GUARD = 3  # words or bytes before and after what is lent
 FARTHEST = 200  # steps
+FAR_BACK = 10000  # steps of a search back
 CODES = {name: code for code, name in enumerate(yildreuz.STOP_NAMES)}
 
 # what must have come up of each call by the end
@@ -33,6 +34,8 @@ DUE = {
     'top': {'log entry', 'tape entry', 'nested', 'bullet', 'no list', 'no direction'} | {'refused %d' % k for k in range(7, 11)},
 }
 DUE['go_to'] = (DUE['forward'] | DUE['back']) - {'start', 'far'}  # its count is used up where either could come
+DUE['forward_to'] = DUE['forward'] | {'found', 'refused 12', 'no chosen direction'}
+DUE['back_to'] = {'found', 'none', 'no direction', 'no chosen direction'} | {'refused %d' % k for k in (7, 8, 9, 12)}
 
 
 class Lent:
@@ -137,15 +140,26 @@ def numbers_of(se):
     return yildreuz.Session(se.node, 'du'.index(se.dir), se.position, se.log_len, se.tape_len)
 
 
-def expected(name, w, n, s, log, tape, number):
+MEANT = {
+    'forward': lambda *given: reference.call(*given, False),
+    'back': lambda *given: reference.call(*given, True),
+    'go_to': reference.go_to,
+    'back_to': lambda *given: on_visit(reference.back_to, *given),
+    'forward_to': lambda *given: on_visit(reference.forward_to, *given),
+}
+
+
+def on_visit(meant, w, n, se, log, tape, node, direction, *count):
+    """A direction that is none is a 12, after 7 to 9, as node 0 is."""
+    return meant(w, n, se, log, tape, node if direction <= 1 else 0, 'du'[min(direction, 1)], *count)
+
+
+def expected(name, w, n, s, log, tape, numbers):
     """The outcome; log and tape are lists, changed in place."""
     if s.direction > 1:  # 9, after 7 and 8
         refusal = 7 if reference.accepted(w, n) is None else 8 if max(len(log), len(tape)) > 16384 else 9
         return yildreuz.Outcome(s, 0, CODES['refused'], refusal, 0, 0)
-    if name == 'go_to':
-        se, steps, stop, peak = reference.go_to(w, n, session_of(s), log, tape, number)
-    else:
-        se, steps, stop, peak = reference.call(w, n, session_of(s), log, tape, number, name == 'back')
+    se, steps, stop, peak = MEANT[name](w, n, session_of(s), log, tape, *numbers)
     if stop.split()[0] in ('answer', 'refused'):
         stop, value = stop.split()
         return yildreuz.Outcome(numbers_of(se), steps, CODES[stop], int(value), 0, peak)
@@ -227,19 +241,43 @@ class Comparison:
         ends_near = position < FARTHEST if name == 'back' else position > yildreuz.GREATEST - FARTHEST
         return yildreuz.GREATEST - self.rng.randint(0, 2) if ends_near and self.rng.random() < 0.2 else away
 
+    def spot(self, back, w, n, s, log, tape):
+        """A node and a direction: mostly where the token was or will be some steps away, at times others, and such as there are none."""
+        rng, direction = self.rng, self.rng.randint(0, 1)
+        if s.direction <= 1 and rng.random() < 0.6:
+            se = reference.call(w, n, session_of(s), list(log), list(tape), rng.choice([0, 1, 2, 3, 7, 20, FARTHEST]), back)[0]
+            node, direction = se.node, 'du'.index(se.dir)
+        else:
+            node = rng.choice([0, n + 1, rng.getrandbits(32)] + [rng.randint(0, n + 1)] * 9)
+        return node, direction if rng.random() < 0.95 else rng.choice([2, 3, yildreuz.GREATEST, rng.getrandbits(32)])
+
+    def winding(self, w, n, s, log, tape):
+        """A call and its numbers. From a damaged position a search back may take long: back comes in its place."""
+        name = self.rng.choice(['forward', 'forward', 'back', 'go_to', 'back_to', 'forward_to'])
+        if name == 'back_to' and s.position > FAR_BACK and s.direction <= 1:
+            if reference.call(w, n, session_of(s), list(log), list(tape), FAR_BACK, True)[1] == FAR_BACK:
+                name = 'back'
+        if name == 'back_to':
+            return name, self.spot(True, w, n, s, log, tape)
+        if name == 'forward_to':
+            return name, self.spot(False, w, n, s, log, tape) + (self.number('forward', s.position),)
+        return name, (self.number(name, s.position),)
+
     def wind(self, table, n, s, log, tape):
         """One call, at times after a look at what is on top; its outcome."""
         if self.rng.random() < 0.3:
             self.top(table, n, s, log, tape)
-        name = self.rng.choice(['forward', 'forward', 'back', 'go_to'])
-        number = self.number(name, s.position)
         w, want_log, want_tape = table.now(), log.now(), tape.now()
-        given = (name, w, n, s, list(want_log), list(want_tape), number)
-        got = getattr(self.lib, name)(table.part, n, s, log.part, tape.part, number)
-        want = expected(name, w, n, s, want_log, want_tape, number)
+        name, numbers = self.winding(w, n, s, want_log, want_tape)
+        given = (name, w, n, s, list(want_log), list(want_tape), *numbers)
+        got = getattr(self.lib, name)(table.part, n, s, log.part, tape.part, *numbers)
+        want = expected(name, w, n, s, want_log, want_tape, numbers)
         self.same((got, table.now(), log.now(), tape.now()), (want, w, want_log, want_tape), given)
         what = yildreuz.STOP_NAMES[got.stop]
-        self.note(name, 'no direction' if s.direction > 1 and got.value == 9 else 'refused %d' % got.value if what == 'refused' else what)
+        if what == 'refused':
+            unchosen = len(numbers) > 1 and numbers[1] > 1 and got.value == 12
+            what = 'no direction' if s.direction > 1 and got.value == 9 else 'no chosen direction' if unchosen else 'refused %d' % got.value
+        self.note(name, what)
         return got
 
     def top(self, table, n, s, log, tape):
@@ -292,7 +330,7 @@ class Comparison:
         return ['%s: %s' % (call, what) for call, due in DUE.items() for what in sorted(due) if not self.seen[call, what]]
 
     def shown(self):
-        return ['%-8s %s' % (call, ', '.join('%s %d' % (what, k) for (c, what), k in sorted(self.seen.items()) if c == call)) for call in DUE]
+        return ['%-10s %s' % (call, ', '.join('%s %d' % (what, k) for (c, what), k in sorted(self.seen.items()) if c == call)) for call in DUE]
 
 
 # ---- what the wrapper itself must refuse, before the call
@@ -317,6 +355,10 @@ def refuses_misuse(lib):
         (OverflowError, lambda: lib.open(table, -1, log, tape)),
         (OverflowError, lambda: lib.back(table, n, start, log, tape, yildreuz.GREATEST + 1)),
         (OverflowError, lambda: lib.go_to(table, n, start._replace(node=yildreuz.GREATEST + 2), log, tape, 0)),
+        (ValueError, lambda: lib.back_to(table, n, start, log, log, 1, yildreuz.UP)),
+        (OverflowError, lambda: lib.back_to(table, n, start, log, tape, -1, yildreuz.UP)),
+        (OverflowError, lambda: lib.forward_to(table, n, start, log, tape, 1, yildreuz.GREATEST + 1, 0)),
+        (OverflowError, lambda: lib.forward_to(table, n, start, log, tape, 1, yildreuz.UP, yildreuz.GREATEST + 1)),
         (ValueError, lambda: lib.top(table, n, start, log, memoryview(log)[1:], yildreuz.LOG)),
         (OverflowError, lambda: lib.top(table, n, start, log, tape, -1)),
         (TypeError, lambda: lib.write(table, n, bytes(10))),

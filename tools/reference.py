@@ -1,5 +1,5 @@
 #!/usr/bin/env python3
-"""An independent reading of document 01, and of changes 1 to 3 of document 02, from which the expected outputs of the programs `cases` and `winder` are worked out.
+"""An independent reading of document 01, and of changes 1 to 3 and 5 of document 02, from which the expected outputs of the programs `cases` and `winder` are worked out.
 
   tools/reference.py cases < SCRIPT   what `cases` must print for a script of cases, as crates/cases/stdin (script.py)
   tools/reference.py winder < TERM    what `winder` must print for a term
@@ -405,6 +405,46 @@ def go_to(w, n, se, log, tape, q):
     if se.position <= q:
         return call(w, n, se, log, tape, q - se.position, False)
     return call(w, n, se, log, tape, se.position - q, True)
+
+
+def passed(m, s, position, count, log_room, tape_room, back):
+    """The states that winding by a count comes to, one by one; the present one is none of them."""
+    for _ in range(count):
+        s, position, made, _, _ = wind(m, s, position, 1, log_room, tape_room, back)
+        if made == 0:
+            return
+        yield s
+
+
+def search(w, n, se, log, tape, node, dir, count, back):
+    """A refusal's number, or 0; and the steps to the first of these states that has the node and the direction, or 0 where none has."""
+    m, s, number = given(w, n, se, log, tape)
+    if number:
+        return number, 0
+    if not 1 <= node <= n:
+        return 12, 0
+    for steps, u in enumerate(passed(m, s, se.position, count, len(log), len(tape), back), 1):
+        if u[:2] == (node, dir):
+            return 0, steps
+    return 0, 0
+
+
+def back_to(w, n, se, log, tape, node, dir):
+    """Back by the steps to the last earlier position with this node and direction; with none, by no step."""
+    number, steps = search(w, n, se, log, tape, node, dir, se.position, True)
+    if number:
+        return se, 0, 'refused %d' % number, 0
+    there, _, _, peak = call(w, n, se, log, tape, steps, True)
+    return there, steps, 'found' if steps else 'none', peak
+
+
+def forward_to(w, n, se, log, tape, node, dir, count):
+    """Forward by the steps to the next later one that the count reaches; with none, by the count."""
+    number, steps = search(w, n, se, log, tape, node, dir, count, False)
+    if number:
+        return se, 0, 'refused %d' % number, 0
+    there, made, stop, peak = call(w, n, se, log, tape, steps or count, False)
+    return there, made, 'found' if steps else stop, peak
 
 
 def top(w, n, se, log, tape, which):

@@ -1,9 +1,9 @@
 """The script of cases (crates/cases/stdin, which says its commands) on reference.py's reading of documents 01 and 02: what the program `cases` must print."""
 from itertools import groupby
 
-from reference import GREATEST, START, Machine, Session, accepted, call, go_to, lay, open_session, read, top, wind, words, write
+from reference import GREATEST, START, Machine, Session, accepted, back_to, call, forward_to, go_to, lay, open_session, read, top, wind, words, write
 
-LONGEST_SCRIPT, LONGEST_TEXT, LONGEST_BUFFER = 24575, 3001, 3010
+LONGEST_SCRIPT, LONGEST_TEXT, LONGEST_BUFFER = 32767, 3001, 3010
 
 
 class Wrong(Exception):
@@ -117,6 +117,12 @@ class Desk:
     def do_go_to(self, position):
         return self.on_slices(lambda *lent: self.wound(go_to(*lent, position)))
 
+    def do_back_to(self, node, dir):
+        return self.on_slices(lambda *lent: self.wound(back_to(*lent, node, 'u' if dir else 'd')))
+
+    def do_forward_to(self, node, dir, count):
+        return self.on_slices(lambda *lent: self.wound(forward_to(*lent, node, 'u' if dir else 'd', count)))
+
     def do_walk(self, count):
         return self.on_slices(lambda *lent: self.walked(*lent, count))
 
@@ -193,6 +199,7 @@ SHAPES = {
     'text': (0, True), 'n': (1, False), 'down': (4, False), 'up': (4, False), 'tower': (1, False),
     'read': (0, True), 'accept': (0, True), 'open': (0, True), 'forward': (1, True), 'back': (1, True), 'go-to': (1, True),
     'walk': (1, True), 'walk-back': (1, True), 'log-top': (0, True), 'tape-top': (0, True), 'write': (2, True), 'read-back': (0, True),
+    'back-to': (2, True), 'forward-to': (3, True),
 }
 SLICES = ('table', 'log', 'tape')
 for slice in SLICES:

@@ -1,5 +1,5 @@
 -- What the calls answer: a refused one gives back what it was given, and any other winds from the state that lies in its slices.
-use mathlib.Core.Path.{_≡_, refl, sym, ap, _∙_, subst}
+use mathlib.Core.Path.{_≡_, refl, sym, ap, _∙_}
 use mathlib.Core.Bool.{Bool, true, false}
 use mathlib.Core.Option.{Option, none, some, Option·some-ne-none}
 use mathlib.Core.List.{List}
@@ -21,21 +21,22 @@ use Rattle.calls.specs.Stops.{Way, forward, back, Moment, moment, Room, 
 use Rattle.calls.specs.Winding.{Run, wind}
 use Rattle.calls.specs.Held.{Holds}
 use Rattle.calls.specs.Calls.{longest, lentNumber, stateGiven, callNumber, Enters, sessionAt, logSlice, tapeSlice, refusedOutcome, wound, outcomeBy, windOf, goToOf}
-use Rattle.calls.specs.Demand.{Move, by, go-to, outcomeOf, Standing, givenTo, RefusedCall}
+use Rattle.calls.specs.Visits.{Spot, seek, seekBack, offTerm, visitNumber, backToOf, forwardToOf}
+use Rattle.calls.specs.Demand.{Move, by, go-to, back-to, forward-to, outcomeOf, Standing, givenTo, RefusedCall}
 use Rattle.calls.proofs.Held.{held-exactly}
-use Rattle.calls.proofs.Unrefused.{lent-seven, lent-log-eight, lent-tape-eight, lent-unrefused, call-as-lent, call-nine, call-unrefused}
-use Rattle.calls.proofs.Stops.{Fits, IsStop}
-use Rattle.calls.proofs.Winds.{wind-is-stop}
+use Rattle.calls.proofs.Unrefused.{lent-seven, lent-log-eight, lent-tape-eight, lent-unrefused, call-as-lent, call-nine, call-unrefused, visit-as-call, visit-unrefused}
+use Rattle.calls.proofs.Stops.{Fits}
+use Rattle.calls.proofs.Visits.{Unrefused, wind-unrefused, seek-unrefused, seek-back-unrefused}
 
 -- a refused call
-as-given : (k : ℕ) (g : Given) → RefusedCall g (refusedOutcome k g)
+pub as-given : (k : ℕ) (g : Given) → RefusedCall g (refusedOutcome k g)
 as-given k g = record { session-is = refl; log-is = refl; tape-is = refl; no-steps = refl; no-peak = refl }
 
-unchanged : (o : Option ℕ) (s : Option State) (g : Given) (run : Moment → Run) → ((m : Moment) → IsStop (run m .stop)) → (k : ℕ)
+unchanged : (o : Option ℕ) (s : Option State) (g : Given) (run : Moment → Run) → ((m : Moment) → Unrefused (run m .stop)) → (k : ℕ)
     → outcomeBy o s g run .stop ≡ refused k → RefusedCall g (outcomeBy o s g run)
 unchanged (some j) s g run stops k e = as-given j g
 unchanged none none g run stops k e = as-given 9 g
-unchanged none (some s) g run stops k e = absurd (subst IsStop e (stops (moment s (g .session .position))))
+unchanged none (some s) g run stops k e = absurd (stops (moment s (g .session .position)) k e)
 
 -- what holds of forward and of back by a count holds of go-to
 pub either-way : (P : Outcome → Type 0) (b : Bool) (x y : Unit {0} → Outcome) → ((i : Unit {0}) → P (x i)) → ((i : Unit {0}) → P (y i)) → P (choose b x y)
@@ -52,16 +53,38 @@ module _ (g : Given) (k : ℕ) where
   wind-unchanged way c e =
       let T : Table = tableIn (g .table) (g .n) in
       let r : Room = room (g .log) (g .tape) in
-      unchanged (callNumber g) (stateGiven g) g (λ m. wind way T r c m) (λ m. wind-is-stop way T r c m) k e
+      unchanged (callNumber g) (stateGiven g) g (λ m. wind way T r c m) (λ m. wind-unrefused way T r c m) k e
+
+  -- to a spot
+  to-spot : (v : Spot) (run : Moment → Run) → visitNumber (v .node) g ≡ some k → outcomeBy (visitNumber (v .node) g) (stateGiven g) g run ≡ refusedOutcome k g
+  to-spot v run e = rw e
+
+  pub back-to-refused : (v : Spot) → visitNumber (v .node) g ≡ some k → backToOf g v ≡ refusedOutcome k g
+  unfolding backToOf
+  back-to-refused v e = to-spot v _ e
+
+  pub forward-to-refused : (v : Spot) (c : ℕ) → visitNumber (v .node) g ≡ some k → forwardToOf g v c ≡ refusedOutcome k g
+  unfolding forwardToOf
+  forward-to-refused v c e = to-spot v _ e
 
   pub move-refused : (m : Move) → callNumber g ≡ some k → outcomeOf m g ≡ refusedOutcome k g
   unfolding goToOf
   move-refused (by way c) e = wind-refused way e c
+  move-refused (back-to v) e = back-to-refused v (visit-as-call (v .node) g k e)
+  move-refused (forward-to v c) e = forward-to-refused v c (visit-as-call (v .node) g k e)
   move-refused (go-to q) e = either-way (λ o. o ≡ refusedOutcome k g) (leb (g .session .position) q) _ _ (λ i. wind-refused forward e _) (λ i. wind-refused back e _)
 
   pub refused-unchanged : (m : Move) → outcomeOf m g .stop ≡ refused k → RefusedCall g (outcomeOf m g)
-  unfolding goToOf
+  unfolding goToOf backToOf forwardToOf
   refused-unchanged (by way c) e = wind-unchanged way c e
+  refused-unchanged (back-to v) e =
+      let T : Table = tableIn (g .table) (g .n) in
+      let r : Room = room (g .log) (g .tape) in
+      unchanged (visitNumber (v .node) g) (stateGiven g) g (λ m. seekBack T r v m) (λ m. seek-back-unrefused T r v m) k e
+  refused-unchanged (forward-to v c) e =
+      let T : Table = tableIn (g .table) (g .n) in
+      let r : Room = room (g .log) (g .tape) in
+      unchanged (visitNumber (v .node) g) (stateGiven g) g (λ m. seek forward T r v c m) (λ m. seek-unrefused T r v c m) k e
   refused-unchanged (go-to q) e =
       either-way (λ o. o .stop ≡ refused k → RefusedCall g o) (leb (g .session .position) q) _ _ (λ i. wind-unchanged forward _) (λ i. wind-unchanged back _) e
 
@@ -75,6 +98,17 @@ module _ (g : Given) (s : State) (h : Enters g s) where
       call-unrefused g
       (lent-unrefused (g .table) (g .n) (g .log) (g .tape) (accepts-all (g .table) (g .n) (h .accepted-table)) (h .short-log) (h .short-tape))
       s state-given
+
+  -- to a spot of the term
+  module _ (v : Spot) (on : offTerm (g .n) (v .node) ≡ false) where
+    pub seeks-back : backToOf g v ≡ wound (room (g .log) (g .tape)) (seekBack (tableIn (g .table) (g .n)) (room (g .log) (g .tape)) v (moment s (g .session .position)))
+    unfolding backToOf
+    seeks-back = rw (visit-unrefused (v .node) g enters-unrefused on, state-given)
+
+    pub seeks-forward : (c : ℕ)
+        → forwardToOf g v c ≡ wound (room (g .log) (g .tape)) (seek forward (tableIn (g .table) (g .n)) (room (g .log) (g .tape)) v c (moment s (g .session .position)))
+    unfolding forwardToOf
+    seeks-forward c = rw (visit-unrefused (v .node) g enters-unrefused on, state-given)
 
   pub winds : (way : Way) (c : ℕ)
       → windOf way g c ≡ wound (room (g .log) (g .tape)) (wind way (tableIn (g .table) (g .n)) (room (g .log) (g .tape)) c (moment s (g .session .position)))
@@ -138,7 +172,7 @@ module _ (r : Room) (m : Moment) (fits : Fits r (m .state)) where
   laid-tape-length : length (tapeSlice r m) ≡ r .tape
   laid-tape-length = slice-length (r .tape) (tapeWords (m .state .tape)) (fits .tape-fits)
 
-  laid-room : room (logSlice r m) (tapeSlice r m) ≡ r
+  pub laid-room : room (logSlice r m) (tapeSlice r m) ≡ r
   laid-room = λ i. record { log = laid-log-length i; tape = laid-tape-length i }
 
   laid-holds : (T : Table) → Good T (m .state) → Holds T (sessionAt m) (logSlice r m) (tapeSlice r m) (m .state)
@@ -162,6 +196,13 @@ module _ (r : Room) (m : Moment) (fits : Fits r (m .state)) where
       short-tape = rw laid-tape-length short-tape;
       holds = laid-holds (tableIn w n) good;
     }
+
+    module _ (v : Spot) (on : offTerm n (v .node) ≡ false) where
+      pub laid-seeks-back : backToOf (givenTo w n (laidDown r m)) v ≡ wound r (seekBack (tableIn w n) r v m)
+      laid-seeks-back = seeks-back (givenTo w n (laidDown r m)) (m .state) laid-enters v on ∙ ap (λ q. wound q (seekBack (tableIn w n) q v m)) laid-room
+
+      pub laid-seeks-forward : (c : ℕ) → forwardToOf (givenTo w n (laidDown r m)) v c ≡ wound r (seek forward (tableIn w n) r v c m)
+      laid-seeks-forward c = seeks-forward (givenTo w n (laidDown r m)) (m .state) laid-enters v on c ∙ ap (λ q. wound q (seek forward (tableIn w n) q v c m)) laid-room
 
     pub laid-winds : (way : Way) (c : ℕ) → windOf way (givenTo w n (laidDown r m)) c ≡ wound r (wind way (tableIn w n) r c m)
     laid-winds way c = winds (givenTo w n (laidDown r m)) (m .state) laid-enters way c ∙ ap (λ q. wound q (wind way (tableIn w n) q c m)) laid-room

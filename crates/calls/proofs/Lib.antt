@@ -4,11 +4,16 @@ pub mod Held
 pub mod Unrefused
 pub mod Stops
 pub mod Winds
+pub mod Visits
+pub mod Visited
 pub mod Digits
 pub mod Peaks
 pub mod Runs
+pub mod Retrace
+pub mod Nowhere
 pub mod Answers
 pub mod Top
 pub mod Weight
 pub mod Third
 pub mod RoundTrip
+pub mod BackTrip

@@ -35,7 +35,7 @@ module _ (way : Way) (T : Table) where
   same-weight : (m u : Moment) → some m ≡ some u → weight T (u .state) ≡ weight T (m .state)
   same-weight m u e = ap (λ x. weight T (x .state)) (sym (Option·some-injective m u e))
 
-  walked-nowhere : (m : Moment) (x : Stop) → Walked m (ended T m x)
+  pub walked-nowhere : (m : Moment) (x : Stop) → Walked m (ended T m x)
   walked-nowhere m x = record { last-is = refl; covered = covered; highest = record { steps = 0; within = zero-le; moment = m; stood = refl; weight-is = refl } }
     where
       covered : (j : ℕ) (u : Moment) → j ≤ 0 → along j m ≡ some u → weight T (u .state) ≤ weight T (m .state)

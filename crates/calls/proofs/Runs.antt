@@ -2,18 +2,18 @@
 use mathlib.Core.Path.{_≡_, refl, sym, ap, _∙_, subst}
 use mathlib.Core.Option.{none, some, Option·some-injective}
 use Prim.Native.Nat.{ℕ, zero, suc, _+_, _-_, _≤_, _<_, min}
-use native.Mathlib.Nat.{add-zero}
+use native.Mathlib.Nat.{add-zero, sub-zero}
 use native.Mathlib.Omega.{arith}
 use Rattle.term.specs.Table.{Table}
 use Rattle.term.specs.Facts.{Facts}
 use Rattle.machine.specs.Machine.{State, step, stepBack, afterFrom}
 use Rattle.machine.specs.Good.{Good}
 use Rattle.machine.proofs.Reverse.{keeps-good, step-undone}
-use Rattle.calls.specs.Session.{Stop, spent, jam, far, logFull, tapeFull, answer, refused}
+use Rattle.calls.specs.Session.{Stop, spent, jam, far, logFull, tapeFull, found, answer, refused}
 use Rattle.calls.specs.Stops.{forward, back, Moment, moment, Room, greatest, stopBefore}
 use Rattle.calls.specs.Winding.{Run, ended, longer, wind}
-use Rattle.calls.specs.Demand.{allowed}
-use Rattle.calls.proofs.Stops.{Fits, start-before-jam, no-halt-back, halt-before-full, no-stop-next, Goes, goes}
+use Rattle.calls.specs.Demand.{stopAfter, allowed}
+use Rattle.calls.proofs.Stops.{Fits, spent-first, start-before-jam, no-halt-back, halt-before-full, no-stop-next, Goes, goes}
 use Rattle.calls.proofs.Winds.{each-run}
 
 -- A run forward from its end, with what no stop says of the step.
@@ -43,6 +43,8 @@ Unhindered far = Unit
 Unhindered Stop.start = Unit
 Unhindered logFull = ⊥
 Unhindered tapeFull = ⊥
+Unhindered found = Unit
+Unhindered Stop.none = Unit
 Unhindered (answer i) = Unit
 Unhindered (refused k) = ⊥
 
@@ -97,6 +99,19 @@ module _ (T : Table) (r : Room) (s₀ : State) where
       (λ m a. refl)
       (λ c m x e a. rw (a, e))
       (λ c m run e g more a. rw (a, e) (ap suc (more (rw a (g .steps)))))
+
+  -- And its stop is the first of the tests that applies after them.
+  pub forward-stops : (c : ℕ) (m : Moment) → afterFrom T s₀ (m .position) ≡ some (m .state)
+      → stopAfter T s₀ r (c - wind forward T r c m .steps) (m .position + wind forward T r c m .steps) ≡ some (wind forward T r c m .stop)
+  unfolding afterFrom
+  forward-stops =
+      each-forward T r (λ c m run. afterFrom T s₀ (m .position) ≡ some (m .state) → stopAfter T s₀ r (c - run .steps) (m .position + run .steps) ≡ some (run .stop))
+      (λ m a. rw (add-zero (m .position), a) (halt-before-full forward T r 0 m spent (spent-first T forward m)))
+      (λ c m x e a. rw (add-zero (m .position), a, sub-zero (suc c)) e)
+      (λ c m run e g more a.
+      let k : suc (m .position) + run .steps ≡ m .position + suc (run .steps) = omega arith in
+      let j : c - run .steps ≡ suc c - suc (run .steps) = omega arith in
+      subst (λ i. stopAfter T s₀ r (suc c - suc (run .steps)) i ≡ some (run .stop)) k (subst (λ i. stopAfter T s₀ r i (suc (m .position) + run .steps) ≡ some (run .stop)) j (more (rw a (g .steps)))))
 
   -- A run back by c from the end of k steps, which began at position p.
   pub record Off (c k p : ℕ) (run : Run) : Type 0 where

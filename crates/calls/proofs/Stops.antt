@@ -10,7 +10,7 @@ use borrow.Author.Tests.{eq-eqb, ne-eqb, lt-ltb, le-ltb}
 use Rattle.term.specs.Choice.{first, ifSome}
 use Rattle.term.specs.Table.{Table}
 use Rattle.machine.specs.Machine.{State, step, stepBack}
-use Rattle.calls.specs.Session.{Stop, spent, jam, far, start, logFull, tapeFull, answer, refused}
+use Rattle.calls.specs.Session.{Stop, spent, jam, far, start, logFull, tapeFull, found, answer, refused}
 use Rattle.calls.proofs.Order.{first-of-both, first-names}
 use Rattle.calls.specs.Stops.{Way, forward, back, Moment, moment, Room, greatest, logSize, tapeSize, nextBy, isAnswer, haltTests, haltBefore, fullTests, stopBefore}
 
@@ -93,7 +93,7 @@ module _ (way : Way) (T : Table) (r : Room) (count : ℕ) (m : Moment) where
         let t : ¬ (r .tape < tapeSize (u .state)) = λ h. clash tapeFull (tape-full-next on u next log-fits h) in
         record { log-fits = log-fits; tape-fits = omega arith }
 
--- No stop is a refusal.
+-- What ends a walk by a count is no refusal, and neither found nor none, which the calls to a spot alone say.
 abbrev pub IsStop : Stop → Type 0
 IsStop spent = Unit
 IsStop jam = Unit
@@ -101,6 +101,8 @@ IsStop far = Unit
 IsStop start = Unit
 IsStop logFull = Unit
 IsStop tapeFull = Unit
+IsStop found = ⊥
+IsStop Stop.none = ⊥
 IsStop (answer i) = Unit
 IsStop (refused k) = ⊥
 

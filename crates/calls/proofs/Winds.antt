@@ -11,7 +11,7 @@ use Rattle.calls.specs.Winding.{Run, ended, longer, wind}
 use Rattle.calls.proofs.Stops.{start-before-jam, jam-before-full-back, halt-before-full, IsStop, stop-is-stop, goes}
 
 -- where no stop comes there is a step
-has-next : (way : Way) (T : Table) (r : Room) (c : ℕ) (m : Moment) → stopBefore way T r (suc c) m ≡ none → (u : Moment) × (nextBy way T m ≡ some u)
+pub has-next : (way : Way) (T : Table) (r : Room) (c : ℕ) (m : Moment) → stopBefore way T r (suc c) m ≡ none → (u : Moment) × (nextBy way T m ≡ some u)
 has-next forward T r c m e = let g = goes T r c m e in (moment (g .next) (suc (m .position)), rw (g .steps))
 has-next back T r c m e = by-position (m .position) refl
   where

@@ -6,4 +6,5 @@ pub mod Winding
 pub mod Held
 pub mod Calls
 pub mod Top
+pub mod Visits
 pub mod Demand

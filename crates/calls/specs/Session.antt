@@ -12,12 +12,13 @@ pub record Session : Type 0 where
   pub tapeLength : ℕ
 
 -- "A stop is one of several named cases, the answer case carrying its node." "A refusal's number comes instead of a stop", in its place.
+-- Document 02, change 5, has "the new stop found", and its call back "says none".
 pub data Stop : Type 0 where
-  spent jam far start logFull tapeFull : Stop
+  spent jam far start logFull tapeFull found none : Stop
   answer : ℕ → Stop
   refused : ℕ → Stop
 
--- What forward, back and go-to answer, "the session, the steps made, the stop, and the peak", and both slices after the call.
+-- What the calls that wind answer, "the session, the steps made, the stop, and the peak", and both slices after the call.
 pub record Outcome : Type 0 where
   pub session : Session
   pub steps : ℕ
@@ -33,7 +34,7 @@ pub record Opening : Type 0 where
   pub log : List ℕ
   pub tape : List ℕ
 
--- What forward, back and go-to are given besides their number.
+-- What a call on a session is given besides its own numbers.
 pub record Given : Type 0 where
   pub table : List ℕ
   pub n : ℕ

@@ -4,6 +4,7 @@ use crate::words::nth_part;
 use crate::words::number_at;
 use crate::words::row_in;
 use crate::words::same_bytes;
+use session::Dir;
 use session::Which;
 
 // What a command is about.
@@ -38,12 +39,14 @@ pub(crate) enum Change {
     Tower,
 }
 
-// A call on a session.
+// A call on a session, with the node and the direction of the visit that it looks for, if it looks for one.
 pub(crate) enum SessionCall {
     Open,
     Forward,
     Back,
     GoTo,
+    BackTo(u32, Dir),
+    ForwardTo(u32, Dir),
 }
 
 // The row of a line's word in a list of rows: a word, how many numbers follow it, and + where a text or a name may follow these. 99 is none.
@@ -72,7 +75,8 @@ pub(crate) fn row_of(line: &[u8]) -> usize {
           open 0 + forward 1 + back 1 + go-to 1 + walk 1 + walk-back 1 + \
           table 2 . set-table 2 . lend-table 1 . tower 1 . \
           log 2 . set-log 2 . lend-log 1 . tape 2 . set-tape 2 . lend-tape 1 . \
-          log-top 0 + tape-top 0 + write 2 + read-back 0 +",
+          log-top 0 + tape-top 0 + write 2 + read-back 0 + \
+          back-to 2 + forward-to 3 +",
     )
 }
 
@@ -80,7 +84,7 @@ pub(crate) fn topic_of(row: usize) -> Topic {
     match row {
         4 => Topic::Read,
         5 => Topic::Accept,
-        6..=11 => Topic::Made,
+        6..=11 | 26 | 27 => Topic::Made,
         12..=15 => Topic::Table,
         16..=18 => Topic::Log,
         19..=21 => Topic::Tape,
@@ -102,12 +106,40 @@ pub(crate) fn plain_of(row: usize) -> Plain {
     }
 }
 
-pub(crate) fn call_of(row: usize) -> SessionCall {
+// A direction of the script: 0 is down, any other number up.
+fn dir_of(number: u32) -> Dir {
+    if number == 0 { Dir::Down } else { Dir::Up }
+}
+
+pub(crate) fn call_of(line: &[u8], row: usize) -> SessionCall {
+    let node = number_at(line, 1);
+    let dir = dir_of(number_at(line, 2));
     match row {
         6 => SessionCall::Open,
         8 | 11 => SessionCall::Back,
         9 => SessionCall::GoTo,
+        26 => SessionCall::BackTo(node, dir),
+        27 => SessionCall::ForwardTo(node, dir),
         _ => SessionCall::Forward,
+    }
+}
+
+// The count or the position of a call that has one.
+pub(crate) fn count_of(line: &[u8], row: usize) -> u32 {
+    if row == 27 {
+        number_at(line, 3)
+    } else {
+        number_at(line, 1)
+    }
+}
+
+// How many words of a call's line stand before a name.
+pub(crate) fn words_of(row: usize) -> usize {
+    match row {
+        6 => 1,
+        26 => 3,
+        27 => 4,
+        _ => 2,
     }
 }
 

@@ -12,10 +12,10 @@ mod written;
 
 use command::Plain;
 use command::Topic;
-use command::is_open;
 use command::plain_of;
 use command::row_of;
 use command::topic_of;
+use command::words_of;
 use desk::Desk;
 use desk::cleared;
 use desk::with_nodes;
@@ -190,19 +190,7 @@ fn made_lent(
     let k = least(d.table, table.len());
     let l = least(d.log, log.len());
     let t = least(d.tape, tape.len());
-    made(
-        row,
-        d,
-        &table[0..k],
-        &mut log[0..l],
-        &mut tape[0..t],
-        number_at(line, 1),
-    )
-}
-
-// How many words of the line stand before a name.
-fn words_of(row: usize) -> usize {
-    if is_open(row) { 1 } else { 2 }
+    made(line, row, d, &table[0..k], &mut log[0..l], &mut tape[0..t])
 }
 
 // Makes a call, or a walk, and shows its answer and both slices.
@@ -282,9 +270,9 @@ fn run(script: &[u8], table: &mut [u32], log: &mut [u32], tape: &mut [u32]) {
 
 fn main() {
     // One byte more than a script may have, so that a longer one shows.
-    let mut script = [0u8; 24576];
+    let mut script = [0u8; 32768];
     let got = io::read_full(0, &mut script);
-    if 24575 < got {
+    if 32767 < got {
         show_wrong(b"the script is too long");
         return;
     }

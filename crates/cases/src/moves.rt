@@ -1,6 +1,7 @@
 // The calls on a session that the script makes.
 use crate::command::SessionCall;
 use crate::command::call_of;
+use crate::command::count_of;
 use crate::command::is_compared;
 use crate::command::is_walk;
 use crate::command::which_of;
@@ -15,7 +16,9 @@ use session::Outcome;
 use session::Session;
 use session::Stop;
 use session::back;
+use session::back_to;
 use session::forward;
+use session::forward_to;
 use session::go_to;
 use session::open;
 use session::top;
@@ -46,6 +49,8 @@ fn call_made(
         SessionCall::Forward => forward(table, n, s, log, tape, count),
         SessionCall::Back => back(table, n, s, log, tape, count),
         SessionCall::GoTo => go_to(table, n, s, log, tape, count),
+        SessionCall::BackTo(node, dir) => back_to(table, n, s, log, tape, node, dir),
+        SessionCall::ForwardTo(node, dir) => forward_to(table, n, s, log, tape, node, dir, count),
     }
 }
 
@@ -110,15 +115,17 @@ fn how_often(walks: bool, count: u32) -> u64 {
     if walks { count as u64 + 1 } else { 1 }
 }
 
-// Makes a call with a count; or, in a walk, one with 0 and as many with 1 as the count says. Shows the last answer, and how many states of a walk back agree.
+// Makes the call of a line; or, in a walk, one with 0 and as many with 1 as the count says. Shows the last answer, and how many states of a walk back agree.
 pub(crate) fn made(
+    line: &[u8],
     row: usize,
     desk: Desk,
     table: &[u32],
     log: &mut [u32],
     tape: &mut [u32],
-    count: u32,
 ) -> Desk {
+    let which = call_of(line, row);
+    let count = count_of(line, row);
     let walks = is_walk(row);
     let compared = is_compared(row);
     let mut left = how_often(walks, count);
@@ -126,7 +133,7 @@ pub(crate) fn made(
     let mut d = desk;
     let mut agreed: u32 = 0;
     while 0 < left {
-        d = after_call(call_of(row), d, table, log, tape, steps);
+        d = after_call(which, d, table, log, tape, steps);
         let more = agrees(compared, d, table, &log[..], &tape[..]);
         agreed = std::num::wrapping_add_u32(agreed, more);
         steps = 1;

@@ -90,6 +90,8 @@ pub(crate) fn stop_number(x: Stop) -> u32 {
         Stop::LogFull => 0,
         Stop::TapeFull => 0,
         Stop::Refused(k) => k,
+        Stop::Found => 0,
+        Stop::None => 0,
     }
 }
 
@@ -102,16 +104,18 @@ pub(crate) fn stop_place(x: Stop) -> usize {
         Stop::Start => 3,
         Stop::LogFull => 4,
         Stop::TapeFull => 5,
-        Stop::Answer(_) => 6,
-        Stop::Refused(_) => 7,
+        Stop::Found => 6,
+        Stop::None => 7,
+        Stop::Answer(_) => 8,
+        Stop::Refused(_) => 9,
     }
 }
 
 // The stop's name, and the number of those that have one.
 fn show_stop(place: usize, number: u32) {
-    let names = b" spent, jam, far, start, log full, tape full, answer , refused ";
+    let names = b" spent, jam, far, start, log full, tape full, found, none, answer , refused ";
     let name = nth_part(names, b',', place);
-    if place < 6 {
+    if place < 8 {
         show(name);
     } else {
         show_number(name, number);

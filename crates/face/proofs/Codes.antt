@@ -7,7 +7,7 @@ use native.Mathlib.Omega.{arith}
 use Rattle.text.specs.Reading.{Read}
 use Rattle.text.specs.Writing.{Write}
 use Rattle.machine.specs.Machine.{Dir, down, up}
-use Rattle.calls.specs.Session.{Session, Stop, spent, jam, far, start, logFull, tapeFull, answer, refused, Opening, Outcome, Given}
+use Rattle.calls.specs.Session.{Session, Stop, spent, jam, far, start, logFull, tapeFull, found, answer, refused, Opening, Outcome, Given}
 use Rattle.calls.specs.Top.{Which, log, tape}
 use Rattle.face.specs.declared.HostSession.{HostSession}
 use Rattle.face.specs.Numbers.{dirNumber, dirIn, sessionNumbers, sessionIn, stopCode, stopValue, whichNumber, whichIn}
@@ -67,7 +67,7 @@ orElse x later zero = x
 orElse x later (suc c) = later c
 
 abbrev stopIn : ℕ → ℕ → Stop
-stopIn c v = orElse spent (orElse (answer v) (orElse jam (orElse far (orElse start (orElse logFull (orElse tapeFull (λ _. refused v))))))) c
+stopIn c v = orElse spent (orElse (answer v) (orElse jam (orElse far (orElse start (orElse logFull (orElse tapeFull (orElse (refused v) (orElse found (λ _. Stop.none))))))))) c
 
 stop-told : (x : Stop) → stopIn (stopCode x) (stopValue x) ≡ x
 stop-told spent = refl
@@ -78,6 +78,8 @@ stop-told start = refl
 stop-told logFull = refl
 stop-told tapeFull = refl
 stop-told (refused k) = refl
+stop-told found = refl
+stop-told Stop.none = refl
 
 pub codes-injective : (x y : Stop) → stopCode x ≡ stopCode y → stopValue x ≡ stopValue y → x ≡ y
 codes-injective x y h k = sym (stop-told x) ∙ (λ i. stopIn (h i) (k i)) ∙ stop-told y

@@ -1,4 +1,4 @@
--- Refusals: a direction above 1 is a 9, after 7 and 8; and every refused call gives the numbers back as they were given, with every lent word.
+-- Refusals: a direction above 1 is a 9, after 7 and 8, and a chosen one a 12, after 9; and every refused call gives the numbers back as they were given, with every lent word.
 use mathlib.Core.Path.{_≡_, refl, ap, _∙_}
 use mathlib.Core.Bool.{Bool, true, false}
 use mathlib.Core.Option.{Option, none, some}
@@ -8,13 +8,14 @@ use lib.ListN.{length}
 use Rattle.term.specs.Accepted.{Accepted, accepted}
 use Rattle.term.proofs.Accepted.{accepts-all, accepts-only}
 use Rattle.calls.specs.Session.{Session, Stop, refused, Outcome, Given}
-use Rattle.calls.specs.Calls.{longest, lentNumber}
+use Rattle.calls.specs.Calls.{longest, lentNumber, callNumber, refusedOutcome}
+use Rattle.calls.specs.Visits.{visitNumber, backToOf, forwardToOf}
 use Rattle.calls.specs.Demand.{Move, outcomeOf, RefusedCall}
-use Rattle.calls.proofs.Unrefused.{lent-seven, lent-log-eight, lent-tape-eight, lent-unrefused}
-use Rattle.calls.proofs.Answers.{refused-unchanged}
+use Rattle.calls.proofs.Unrefused.{lent-seven, lent-log-eight, lent-tape-eight, lent-unrefused, visit-twelve}
+use Rattle.calls.proofs.Answers.{back-to-refused, forward-to-refused, refused-unchanged}
 use Rattle.face.specs.declared.HostSession.{HostSession}
-use Rattle.face.specs.Numbers.{sessionNumbers, sessionIn, stopCode, stopValue}
-use Rattle.face.specs.Told.{refusedTold, noSessionNumber, calledOn, called}
+use Rattle.face.specs.Numbers.{sessionNumbers, sessionIn, stopCode, stopValue, spotIn}
+use Rattle.face.specs.Told.{outcomeTold, refusedTold, noSessionNumber, calledOn, called}
 use Rattle.face.proofs.Codes.{no-direction, numbers-told, codes-injective}
 
 -- A direction above 1, whatever the call.
@@ -44,11 +45,37 @@ module _ (call : Given → Outcome) (w : List ℕ) (n : ℕ) (s : HostSession) (
     direction-nine short-log short-tape =
         rw (lent-unrefused w n ls ts (accepts-all w n table) short-log short-tape) at direction-refused
 
+-- A chosen direction above 1, whatever the node: 12 where none of 7 to 9 applies, and else that one (`move-refused`, `calls` proofs/Answers.antt).
+module _ (g : Given) (i k : ℕ) (h : 1 < k) (e : callNumber g ≡ none) where
+  pub no-spot : visitNumber (spotIn i k .node) g ≡ some 12
+  no-spot = visit-twelve (spotIn i k .node) g e (rw (no-direction k h))
+
+  pub back-to-no-spot : backToOf g (spotIn i k) ≡ refusedOutcome 12 g
+  back-to-no-spot = back-to-refused g 12 (spotIn i k) no-spot
+
+  pub forward-to-no-spot : (c : ℕ) → forwardToOf g (spotIn i k) c ≡ refusedOutcome 12 g
+  forward-to-no-spot c = forward-to-refused g 12 (spotIn i k) c no-spot
+
 -- Code 7 is a refusal's alone.
 code-7 : (x : Stop) → stopCode x ≡ 7 → x ≡ refused (stopValue x)
 code-7 x e = codes-injective x (refused (stopValue x)) e refl
 
--- Forward, back and go-to, whatever the number.
+-- A refused outcome, told.
+pub refused-told : {g : Given} {o : Outcome} (k : ℕ) → o .stop ≡ refused k → RefusedCall g o → outcomeTold o ≡ refusedTold k (sessionNumbers (g .session)) (g .log) (g .tape)
+refused-told k e h = λ i. (
+  record {
+    session = sessionNumbers (h .session-is i);
+    steps = h .no-steps i;
+    stop = stopCode (e i);
+    value = stopValue (e i);
+    value2 = 0;
+    peak = h .no-peak i;
+  },
+  h .log-is i,
+  h .tape-is i,
+)
+
+-- The calls that wind, whatever the number.
 module _ (m : Move) (w : List ℕ) (n : ℕ) (s : HostSession) (ls ts : List ℕ) where
   on-session : (o : Option Session) → ((se : Session) → o ≡ some se → sessionNumbers se ≡ s) → calledOn o (λ g. outcomeOf m g) w n s ls ts .0 .stop ≡ 7
       → calledOn o (λ g. outcomeOf m g) w n s ls ts ≡ refusedTold (calledOn o (λ g. outcomeOf m g) w n s ls ts .0 .value) s ls ts
@@ -56,19 +83,8 @@ module _ (m : Move) (w : List ℕ) (n : ℕ) (s : HostSession) (ls ts : List ℕ
   on-session (some se) same e =
       let g : Given = record { table = w; n = n; session = se; log = ls; tape = ts } in
       let o : Outcome = outcomeOf m g in
-      let unchanged : RefusedCall g o = refused-unchanged g (stopValue (o .stop)) m (code-7 (o .stop) e) in
-      λ i. (
-        record {
-          session = (ap sessionNumbers (unchanged .session-is) ∙ same se refl) i;
-          steps = unchanged .no-steps i;
-          stop = e i;
-          value = stopValue (o .stop);
-          value2 = 0;
-          peak = unchanged .no-peak i;
-        },
-        unchanged .log-is i,
-        unchanged .tape-is i,
-      )
+      let is-refused : o .stop ≡ refused (stopValue (o .stop)) = code-7 (o .stop) e in
+      refused-told (stopValue (o .stop)) is-refused (refused-unchanged g (stopValue (o .stop)) m is-refused) ∙ ap (λ x. refusedTold (stopValue (o .stop)) x ls ts) (same se refl)
 
   pub refusal-gives-back : called (λ g. outcomeOf m g) w n s ls ts .0 .stop ≡ 7
       → called (λ g. outcomeOf m g) w n s ls ts ≡ refusedTold (called (λ g. outcomeOf m g) w n s ls ts .0 .value) s ls ts

@@ -1,6 +1,7 @@
 -- The third demand of document 01 for a host: after every list of its calls, what it keeps is the plain machine's after p steps, told in numbers.
 -- The theorem is `host-demand` (proofs/HostDemand.antt).
 use mathlib.Core.Path.{_≡_}
+use mathlib.Core.Bool.{Bool, true, false}
 use mathlib.Core.List.{List, [], _∷_}
 use Prim.Native.Nat.{ℕ, _≤_}
 use lib.ListN.{length}
@@ -11,7 +12,7 @@ use Rattle.calls.specs.Session.{Outcome}
 use Rattle.calls.specs.Stops.{Room, room}
 use Rattle.calls.specs.Calls.{longest, openOf}
 use Rattle.calls.specs.Demand
-use Rattle.calls.specs.Demand.{Move, outcomeOf, Permitted, Standing, OwnCall, positionBy, AsPlain}
+use Rattle.calls.specs.Demand.{Move, outcomeOf, Permitted, Standing, misses, OwnCall, positionBy, Says, AsPlain}
 use Rattle.face.specs.declared.HostSession.{HostSession}
 use Rattle.face.specs.declared.HostOpening.{HostOpening}
 use Rattle.face.specs.declared.HostOutcome.{HostOutcome}
@@ -27,7 +28,8 @@ pub record Kept : Type 0 where
 abbrev pub keptOf : Standing → Kept
 keptOf st = record { session = sessionNumbers (st .session); log = st .log; tape = st .tape }
 
--- A call of the list: its own gets what the host keeps, and brings a slice that has the opened table; another's gets whatever it is handed.
+-- A call of the list: its own gets what the host keeps, and brings a slice that has the opened table; another's gets whatever it is handed. A host's call to a node in a direction is one to
+-- the spot that its two numbers stand for (`spotIn`), whatever they are.
 pub data HostCall : Type 0 where
   own : Move → List ℕ → HostCall
   other : Move → List ℕ → ℕ → Kept → HostCall
@@ -64,9 +66,13 @@ module _ (T : Table) (s₀ : State) (r : Room) where
   abbrev pub KeptAsPlain : ℕ → Kept → Type 0
   KeptAsPlain p h = (st : Standing) × AsPlain T s₀ r p st × (h ≡ keptOf st)
 
-  -- A call of the list's own tells an outcome as the third demand has it; a refused one gives back what it was handed.
+  -- A call of the list's own tells a 12, or an outcome as the third demand has it; a refused one gives back what it was handed.
+  abbrev pub ToldAsOwn : Bool → Move → ℕ → Kept → HostOutcome × List ℕ × List ℕ → Type 0
+  ToldAsOwn true m p h a = a ≡ refusedTold 12 (h .session) (h .log) (h .tape)
+  ToldAsOwn false m p h a = (o : Outcome) × OwnCall p (positionBy T s₀ r m p) m o × Says T s₀ r m p (positionBy T s₀ r m p) (o .stop) × (a ≡ outcomeTold o)
+
   abbrev pub ToldAsDemanded : ℕ → ℕ → Kept → HostCall → Type 0
-  ToldAsDemanded n p h (own m u) = (o : Outcome) × OwnCall p (positionBy T s₀ r m p) m o × (answerTo m u n h ≡ outcomeTold o)
+  ToldAsDemanded n p h (own m u) = ToldAsOwn (misses (T .nodes) m) m p h (answerTo m u n h)
   ToldAsDemanded n p h (other m u k g) = (x : ℕ) × (answerTo m u k g ≡ refusedTold x (g .session) (g .log) (g .tape))
 
   unfoldable pub HostDemanded : ℕ → List HostCall → ℕ → Kept → Type 0

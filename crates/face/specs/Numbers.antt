@@ -1,10 +1,11 @@
--- Directions, sessions, stops and lists in numbers, as a host in another language holds them (host/yildreuz.h).
+-- Directions, sessions, stops, lists and spots in numbers, as a host in another language holds them (host/yildreuz.h).
 use mathlib.Core.Option.{Option, none, some}
 use Prim.Native.Nat.{ℕ, zero, suc}
-use Rattle.term.specs.Choice.{_>>=_}
+use Rattle.term.specs.Choice.{_>>=_, ifSome}
 use Rattle.machine.specs.Machine.{Dir, down, up}
-use Rattle.calls.specs.Session.{Session, Stop, spent, jam, far, start, logFull, tapeFull, answer, refused}
+use Rattle.calls.specs.Session.{Session, Stop, spent, jam, far, start, logFull, tapeFull, found, answer, refused}
 use Rattle.calls.specs.Top.{Which, log, tape}
+use Rattle.calls.specs.Visits.{Spot, spot}
 use Rattle.face.specs.declared.HostSession.{HostSession}
 
 -- A direction is 0 down, 1 up,
@@ -44,6 +45,8 @@ stopCode start = 4
 stopCode logFull = 5
 stopCode tapeFull = 6
 stopCode (refused k) = 7
+stopCode found = 8
+stopCode Stop.none = 9
 
 -- and a value: the answer's node, the refusal's number, and 0 with every other.
 abbrev pub stopValue : Stop → ℕ
@@ -55,6 +58,8 @@ stopValue start = 0
 stopValue logFull = 0
 stopValue tapeFull = 0
 stopValue (refused k) = k
+stopValue found = 0
+stopValue Stop.none = 0
 
 -- A list is 0 the log, 1 the tape,
 abbrev pub whichNumber : Which → ℕ
@@ -66,3 +71,7 @@ abbrev pub whichIn : ℕ → Option Which
 whichIn zero = some log
 whichIn (suc zero) = some tape
 whichIn (suc (suc k)) = none
+
+-- A node and a direction are a spot. A greater number is no direction, and then the spot is on node 0, which no term has: the call to it is a 12, after 9 (`no-spot`, proofs/Refusals.antt).
+abbrev pub spotIn : ℕ → ℕ → Spot
+spotIn i k = ifSome (dirIn k) (λ d. spot i d) (λ _. spot 0 down)

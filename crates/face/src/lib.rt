@@ -31,7 +31,7 @@ pub struct HostOpening {
     pub refusal: u32,
 }
 
-// What forward, back and go-to answer. Stop: 0 spent, 1 answer, 2 jam, 3 far, 4 start, 5 log full, 6 tape full, 7 refused.
+// What the calls that wind answer. Stop: 0 spent, 1 answer, 2 jam, 3 far, 4 start, 5 log full, 6 tape full, 7 refused, 8 found, 9 none.
 // Value: the answer's node, the refusal's number, or 0; no stop has a second value. Peak: the greatest weight over the states stood in, in bits.
 #[repr(C)]
 pub struct HostOutcome {

@@ -1,19 +1,22 @@
--- A call forward or back by its number: refused, or wound from the state that it is given.
+-- A call by its number: refused, or wound from the state that it is given.
 use mathlib.Core.Path.{_≡_}
+use mathlib.Core.Bool.{false}
 use mathlib.Core.List.{List}
 use Prim.Native.Nat.{ℕ, _-_, _≤_, _<_}
 use borrow.Author.Tests.{le-leb, lt-leb}
 use Rattle.term.specs.Table.{tableIn}
 use Rattle.machine.specs.Machine.{State}
 use Rattle.calls.specs.Session.{Given}
-use Rattle.calls.specs.Stops.{Way, moment, room}
+use Rattle.calls.specs.Stops.{Way, forward, moment, room}
 use Rattle.calls.specs.Winding.{wind}
 use Rattle.calls.specs.Calls.{callNumber, Enters, refusedOutcome, wound, windOf, forwardOf, backOf, goToOf}
-use Rattle.calls.proofs.Answers.{entered, winds, wind-refused}
+use Rattle.calls.specs.Visits.{Spot, seek, seekBack, offTerm, visitNumber, backToOf, forwardToOf}
+use Rattle.calls.proofs.Unrefused.{visit-none}
+use Rattle.calls.proofs.Answers.{wind-refused, back-to-refused, forward-to-refused, entered, seeks-back, seeks-forward, winds}
 use Rattle.session.specs.Types.{lent, numberMeant}
 use Rattle.session.specs.Steps.{Ready}
 use Rattle.session.specs.declared.Session as Declared
-use Rattle.session.proofs.Numbers.{number-some, call-none}
+use Rattle.session.proofs.Numbers.{number-some, call-none, visited-none}
 
 module _ (w : List ℕ) (n : ℕ) (se : Declared.Session) (ls ts : List ℕ) where
   -- a number other than 0
@@ -42,3 +45,35 @@ module _ (g : Given) (q : ℕ) where
   pub goes-back : q < g .session .position → backOf g (g .session .position - q) ≡ goToOf g q
   unfolding goToOf
   goes-back h = rw (lt-leb (g .session .position) q h)
+
+-- The calls to a spot by their number.
+module _ (w : List ℕ) (n : ℕ) (se : Declared.Session) (ls ts : List ℕ) where
+  -- the number 0
+  module _ (i : ℕ) (e : 0 ≡ numberMeant (visitNumber i (lent w n se ls ts))) where
+    visit-enters : (s : State) × Enters (lent w n se ls ts) s
+    visit-enters = entered (lent w n se ls ts) (visit-none i (lent w n se ls ts) (visited-none (lent w n se ls ts) i e) .0)
+
+    pub visit-ready : Ready w n se ls ts
+    visit-ready = let (s, h) = visit-enters in record { state = s; token = record { enters = h } }
+
+    on-term : offTerm n i ≡ false
+    on-term = visit-none i (lent w n se ls ts) (visited-none (lent w n se ls ts) i e) .1
+
+  module _ (v : Spot) where
+    pub back-refused : (k : ℕ) → k ≡ numberMeant (visitNumber (v .node) (lent w n se ls ts)) → (k ≡ 0 → ⊥) → backToOf (lent w n se ls ts) v ≡ refusedOutcome k (lent w n se ls ts)
+    back-refused k e z = back-to-refused (lent w n se ls ts) k v (number-some (visitNumber (v .node) (lent w n se ls ts)) k e z)
+
+    pub back-seeks : (e : 0 ≡ numberMeant (visitNumber (v .node) (lent w n se ls ts)))
+        → backToOf (lent w n se ls ts) v ≡ wound (room ls ts) (seekBack (tableIn w n) (room ls ts) v (moment (visit-ready (v .node) e .state) (se .position)))
+    unfolding visit-ready
+    back-seeks e = seeks-back (lent w n se ls ts) (visit-enters (v .node) e .0) (visit-enters (v .node) e .1) v (on-term (v .node) e)
+
+    module _ (count : ℕ) where
+      pub forward-refused : (k : ℕ) → k ≡ numberMeant (visitNumber (v .node) (lent w n se ls ts)) → (k ≡ 0 → ⊥)
+          → forwardToOf (lent w n se ls ts) v count ≡ refusedOutcome k (lent w n se ls ts)
+      forward-refused k e z = forward-to-refused (lent w n se ls ts) k v count (number-some (visitNumber (v .node) (lent w n se ls ts)) k e z)
+
+      pub forward-seeks : (e : 0 ≡ numberMeant (visitNumber (v .node) (lent w n se ls ts)))
+          → forwardToOf (lent w n se ls ts) v count ≡ wound (room ls ts) (seek forward (tableIn w n) (room ls ts) v count (moment (visit-ready (v .node) e .state) (se .position)))
+      unfolding visit-ready
+      forward-seeks e = seeks-forward (lent w n se ls ts) (visit-enters (v .node) e .0) (visit-enters (v .node) e .1) v (on-term (v .node) e) count

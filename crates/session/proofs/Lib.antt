@@ -15,4 +15,5 @@ pub mod Facing
 pub mod Passes
 pub mod Weighing
 pub mod Loops
+pub mod Searches
 pub mod Calls

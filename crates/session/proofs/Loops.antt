@@ -1,26 +1,30 @@
 -- The winding loop: what is left to run from here is the whole run.
-use mathlib.Core.Path.{_≡_, refl, sym, ap, _∙_, subst}
+use mathlib.Core.Path.{_≡_, refl, sym, ap, ap₂, _∙_, subst}
+use mathlib.Core.Bool.{true, false, _&&_}
 use mathlib.Core.Option.{Option, none, some}
 use mathlib.Core.List.{List}
 use Prim.Native.Nat.{ℕ, suc, _+_, _-_, _≤_, _<_, max, zero-le}
 use native.Mathlib.Omega.{arith}
 use lib.ListN.{length}
+use lib.Dec.{eqb}
 use Rattle.term.specs.Table.{Table, tableIn}
 use Rattle.machine.specs.Machine.{State}
-use Rattle.calls.specs.Session.{Stop, spent}
+use Rattle.calls.specs.Session.{Stop, spent, found}
 use Rattle.calls.specs.Stops.{Way, Moment, moment, Room, room, nextBy, stopBefore}
 use Rattle.calls.specs.Weight.{bullets, weight}
-use Rattle.calls.specs.Winding.{Run, ended, wind}
+use Rattle.calls.specs.Winding.{Run, ended, longer, wind}
 use Rattle.calls.specs.Calls.{wound}
+use Rattle.calls.specs.Visits.{Spot, sameDir, isOn, seek}
 use Rattle.calls.proofs.Peaks.{walked}
-use Rattle.session.specs.Types.{sessionMeant, stopMeant, outcomeMeant}
+use Rattle.calls.proofs.Visits.{seek-none, seek-stops, seek-arrives, seek-goes-on, each-sought, sought}
+use Rattle.session.specs.Types.{dirMeant, sessionMeant, stopMeant, outcomeMeant}
 use Rattle.session.specs.Steps.{TokenAt, Ready}
 use Rattle.session.specs.Weight.{weightOf, Weighable, bulletsAfter, HasCount}
 use Rattle.session.specs.Passes.{PassIs, begunAt, lengthenedTo, endedBy}
 use Rattle.session.specs.declared.Session as Declared
 use Rattle.session.specs.declared.Outcome as Came
 use Rattle.session.specs.declared.Stop as DeclaredStop
-use Rattle.session.specs.declared.Stop.the-variants.{Spent}
+use Rattle.session.specs.declared.Stop.the-variants.{Spent, Found}
 use Rattle.session.specs.declared.choice.Rule.{Rule}
 use Rattle.session.specs.declared.winding.Pass.the-variants.{On, Halted}
 use Rattle.session.proofs.Weighing.{few-bullets, pass-counted, pass-countable, weighs, weighable}
@@ -33,13 +37,16 @@ precededBy k q r = record { last = r .last; steps = k + r .steps; stop = r .stop
 abbrev endedAfter : ℕ → ℕ → Moment → Stop → Run
 endedAfter k q m x = record { last = m; steps = k; stop = x; peak = q }
 
-module _ (way : Way) (T : Table) (r : Room) where
-  first-weight : (c : ℕ) (m : Moment) → weight T (m .state) ≤ wind way T r c m .peak
-  first-weight c m = walked way T r c m .covered 0 m zero-le refl
+module _ (way : Way) (T : Table) (r : Room) (v : Spot) where
+  first-weight : (c : ℕ) (m : Moment) → weight T (m .state) ≤ seek way T r v c m .peak
+  first-weight c m = each-sought (λ x. weight T (m .state) ≤ x .peak) (λ k f. begins-high k) (begins-high c) (sought way T r v c m)
+    where
+      begins-high : (k : ℕ) → weight T (m .state) ≤ wind way T r k m .peak
+      begins-high k = walked way T r k m .covered 0 m zero-le refl
 
-  none-before : (c q : ℕ) (m : Moment) → q ≡ weight T (m .state) → precededBy 0 q (wind way T r c m) ≡ wind way T r c m
+  none-before : (c q : ℕ) (m : Moment) → q ≡ weight T (m .state) → precededBy 0 q (seek way T r v c m) ≡ seek way T r v c m
   none-before c q m e =
-      let run : Run = wind way T r c m in
+      let run : Run = seek way T r v c m in
       let h : weight T (m .state) ≤ run .peak = first-weight c m in
       let k : 0 + run .steps ≡ run .steps = omega arith in
       let p : max q (run .peak) ≡ run .peak = omega arith in
@@ -52,26 +59,49 @@ module _ (way : Way) (T : Table) (r : Room) where
         let p : max q (weight T (m .state)) ≡ q = omega arith in
         λ i. endedAfter (j i) (p i) m x
 
-    spent-here : precededBy k q (wind way T r 0 m) ≡ endedAfter k q m spent
-    unfolding wind
-    spent-here = ended-here spent
+    spent-here : precededBy k q (seek way T r v 0 m) ≡ endedAfter k q m spent
+    spent-here = ap (precededBy k q) (seek-none way T r v m) ∙ ended-here spent
 
-    halted-here : (c : ℕ) (x : Stop) → stopBefore way T r (suc c) m ≡ some x → precededBy k q (wind way T r (suc c) m) ≡ endedAfter k q m x
-    unfolding wind
-    halted-here c x e = rw e (ended-here x)
+    halted-here : (c : ℕ) (x : Stop) → stopBefore way T r (suc c) m ≡ some x → precededBy k q (seek way T r v (suc c) m) ≡ endedAfter k q m x
+    halted-here c x e = ap (precededBy k q) (seek-stops way T r v c m x e) ∙ ended-here x
 
-    one-more : (c : ℕ) (u : Moment) → stopBefore way T r (suc c) m ≡ none → nextBy way T m ≡ some u
-        → precededBy k q (wind way T r (suc c) m) ≡ precededBy (k + 1) (max q (weight T (u .state))) (wind way T r c u)
-    unfolding wind
-    one-more c u e n =
-        let run : Run = wind way T r c u in
-        let h : weight T (u .state) ≤ run .peak = first-weight c u in
+    -- a step, and the run from where it leads
+    one-longer : (u : Moment) (run : Run) → weight T (u .state) ≤ run .peak → precededBy k q (longer T m run) ≡ precededBy (k + 1) (max q (weight T (u .state))) run
+    one-longer u run h =
         let j : k + suc (run .steps) ≡ k + 1 + run .steps = omega arith in
         let p : max q (max (weight T (m .state)) (run .peak)) ≡ max (max q (weight T (u .state))) (run .peak) = omega arith in
-        rw (e, n) (λ i. record { last = run .last; steps = j i; stop = run .stop; peak = p i })
+        λ i. record { last = run .last; steps = j i; stop = run .stop; peak = p i }
+
+    module _ (c : ℕ) (u : Moment) (e : stopBefore way T r (suc c) m ≡ none) (n : nextBy way T m ≡ some u) where
+      one-more : isOn v (u .state) ≡ false → precededBy k q (seek way T r v (suc c) m) ≡ precededBy (k + 1) (max q (weight T (u .state))) (seek way T r v c u)
+      one-more a = ap (precededBy k q) (seek-goes-on way T r v c m u e n a) ∙ one-longer u (seek way T r v c u) (first-weight c u)
+
+      found-there : isOn v (u .state) ≡ true → precededBy k q (seek way T r v (suc c) m) ≡ endedAfter (k + 1) (max q (weight T (u .state))) u found
+      found-there a =
+          ap (precededBy k q) (seek-arrives way T r v c m u e n a)
+          ∙ one-longer u (ended T u found) (omega arith)
+          ∙ (let j : k + 1 + 0 ≡ k + 1 = omega arith in
+          let p : max (max q (weight T (u .state))) (weight T (u .state)) ≡ max q (weight T (u .state)) = omega arith in
+          λ i. endedAfter (j i) (p i) u found)
+
+-- The outcome of a session that holds the state where the whole run ends.
+module _ (o : Came.Outcome) {w : List ℕ} {n : ℕ} {ls ts : List ℕ} {s : State} (t : TokenAt w n (o .session) ls ts s) (r : Room) (same-room : room ls ts ≡ r) where
+  comes-out : (run : Run) (x : DeclaredStop.Stop) → run ≡ endedAfter (o .steps) (o .peak) (moment s (o .session .position)) (stopMeant x) → outcomeMeant (endedBy o x) ls ts ≡ wound r run
+  comes-out run x f =
+      let h = t .enters .holds in
+      (λ i. record {
+        session = record { node = h .node-is i; dir = h .dir-is i; position = o .session .position; logLength = h .log-length i; tapeLength = h .tape-length i };
+        steps = o .steps;
+        stop = stopMeant x;
+        peak = o .peak;
+        log = h .log-lies i;
+        tape = h .tape-lies i;
+      })
+      ∙ ap (λ q. wound q (endedAfter (o .steps) (o .peak) (moment s (o .session .position)) (stopMeant x))) same-room
+      ∙ ap (wound r) (sym f)
 
 -- The loop of a call with its running outcome o and its count of bullets b, over slices of the lengths in r: what it still has to run is what is left of the whole run.
-pub record Loop (way : Way) (w : List ℕ) (n : ℕ) (r : Room) (run : Run) (count : ℕ) (o : Came.Outcome) (b : ℕ) (ls ts : List ℕ) : Type 0 where
+pub record Loop (way : Way) (w : List ℕ) (n : ℕ) (r : Room) (v : Spot) (run : Run) (count : ℕ) (o : Came.Outcome) (b : ℕ) (ls ts : List ℕ) : Type 0 where
   pub state : State
   pub token : TokenAt w n (o .session) ls ts state
   pub unhalted : o .stop ≡ Spent
@@ -79,16 +109,16 @@ pub record Loop (way : Way) (w : List ℕ) (n : ℕ) (r : Room) (run : Run) (cou
   pub same-tape : length ts ≡ r .tape
   pub counted : b ≡ bullets (state .tape)
   pub high : weight (tableIn w n) state ≤ o .peak
-  pub left : precededBy (o .steps) (o .peak) (wind way (tableIn w n) r (count - o .steps) (moment state (o .session .position))) ≡ run
+  pub left : precededBy (o .steps) (o .peak) (seek way (tableIn w n) r v (count - o .steps) (moment state (o .session .position))) ≡ run
 
 -- the loop of the call that is given state s₀
-abbrev pub LoopOf : Way → List ℕ → ℕ → ℕ → Declared.Session → List ℕ → List ℕ → State → Came.Outcome → ℕ → List ℕ → List ℕ → Type 0
-LoopOf way w n count se₀ ls₀ ts₀ s₀ o b ls ts =
-    Loop way w n (room ls₀ ts₀) (wind way (tableIn w n) (room ls₀ ts₀) count (moment s₀ (se₀ .position))) count o b ls ts
+abbrev pub LoopOf : Way → List ℕ → ℕ → Spot → ℕ → Declared.Session → List ℕ → List ℕ → State → Came.Outcome → ℕ → List ℕ → List ℕ → Type 0
+LoopOf way w n v count se₀ ls₀ ts₀ s₀ o b ls ts =
+    Loop way w n (room ls₀ ts₀) v (seek way (tableIn w n) (room ls₀ ts₀) v count (moment s₀ (se₀ .position))) count o b ls ts
 
 module _ {w : List ℕ} {n : ℕ} {se : Declared.Session} {ls ts : List ℕ} {s : State} (h : TokenAt w n se ls ts s) where
-  pub loop-begins : (way : Way) (count b : ℕ) → b ≡ bullets (s .tape) → LoopOf way w n count se ls ts s (begunAt n se b) b ls ts
-  loop-begins way count b k =
+  pub loop-begins : (way : Way) (v : Spot) (count b : ℕ) → b ≡ bullets (s .tape) → LoopOf way w n v count se ls ts s (begunAt n se b) b ls ts
+  loop-begins way v count b k =
       let m : Moment = moment s (se .position) in
       let e : count - 0 ≡ count = omega arith in
       record {
@@ -99,10 +129,10 @@ module _ {w : List ℕ} {n : ℕ} {se : Declared.Session} {ls ts : List ℕ} {s 
         same-tape = refl;
         counted = k;
         high = omega (arith, weighs h k);
-        left = ap (λ c. precededBy 0 (weightOf n se b) (wind way (tableIn w n) (room ls ts) c m)) e ∙ none-before way (tableIn w n) (room ls ts) count (weightOf n se b) m (weighs h k);
+        left = ap (λ c. precededBy 0 (weightOf n se b) (seek way (tableIn w n) (room ls ts) v c m)) e ∙ none-before way (tableIn w n) (room ls ts) v count (weightOf n se b) m (weighs h k);
       }
 
-module _ {way : Way} {w : List ℕ} {n : ℕ} {r : Room} {run : Run} {count : ℕ} {o : Came.Outcome} {b : ℕ} {ls ts : List ℕ} (l : Loop way w n r run count o b ls ts) where
+module _ {way : Way} {w : List ℕ} {n : ℕ} {r : Room} {v : Spot} {run : Run} {count : ℕ} {o : Came.Outcome} {b : ℕ} {ls ts : List ℕ} (l : Loop way w n r v run count o b ls ts) where
   pub ready : Ready w n (o .session) ls ts
   ready = record { state = l .state; token = l .token }
 
@@ -113,29 +143,14 @@ module _ {way : Way} {w : List ℕ} {n : ℕ} {r : Room} {run : Run} {count : �
   same-room = λ i. record { log = l .same-log i; tape = l .same-tape i }
 
   -- what is left, for a count of steps left
-  left-by : (c : ℕ) → count - o .steps ≡ c → run ≡ precededBy (o .steps) (o .peak) (wind way (tableIn w n) r c standing)
-  left-by c e = sym (l .left) ∙ ap (λ j. precededBy (o .steps) (o .peak) (wind way (tableIn w n) r j standing)) e
-
-  -- the outcome given here is the whole run's
-  comes-out : (x : DeclaredStop.Stop) → run ≡ endedAfter (o .steps) (o .peak) standing (stopMeant x) → outcomeMeant (endedBy o x) ls ts ≡ wound r run
-  comes-out x f =
-      let h = l .token .enters .holds in
-      (λ i. record {
-        session = record { node = h .node-is i; dir = h .dir-is i; position = o .session .position; logLength = h .log-length i; tapeLength = h .tape-length i };
-        steps = o .steps;
-        stop = stopMeant x;
-        peak = o .peak;
-        log = h .log-lies i;
-        tape = h .tape-lies i;
-      })
-      ∙ ap (λ q. wound q (endedAfter (o .steps) (o .peak) standing (stopMeant x))) same-room
-      ∙ ap (wound r) (sym f)
+  left-by : (c : ℕ) → count - o .steps ≡ c → run ≡ precededBy (o .steps) (o .peak) (seek way (tableIn w n) r v c standing)
+  left-by c e = sym (l .left) ∙ ap (λ j. precededBy (o .steps) (o .peak) (seek way (tableIn w n) r v j standing)) e
 
   pub loop-spent : count ≤ o .steps → outcomeMeant o ls ts ≡ wound r run
   loop-spent d =
       let e : count - o .steps ≡ 0 = omega arith in
       (λ i. outcomeMeant (record { session = o .session; steps = o .steps; stop = l .unhalted i; peak = o .peak }) ls ts)
-      ∙ comes-out Spent (left-by 0 e ∙ spent-here way (tableIn w n) r (o .steps) (o .peak) standing (l .high))
+      ∙ comes-out o (l .token) r same-room run Spent (left-by 0 e ∙ spent-here way (tableIn w n) r v (o .steps) (o .peak) standing (l .high))
 
   module _ (d : o .steps < count) where
     -- the steps left after this one
@@ -152,7 +167,7 @@ module _ {way : Way} {w : List ℕ} {n : ℕ} {r : Room} {run : Run} {count : �
     loop-halted x p =
         let (stops, el, et) = p in
         (λ i. outcomeMeant (endedBy o x) (el i) (et i))
-        ∙ comes-out x (left-by (suc still) one-left ∙ halted-here way (tableIn w n) r (o .steps) (o .peak) standing (l .high) still (stopMeant x) (stop-here (some (stopMeant x)) stops))
+        ∙ comes-out o (l .token) r same-room run x (left-by (suc still) one-left ∙ halted-here way (tableIn w n) r v (o .steps) (o .peak) standing (l .high) still (stopMeant x) (stop-here (some (stopMeant x)) stops))
 
     module _ {ls′ ts′ : List ℕ} {to : Declared.Session} (rule : Rule) (p : PassIs w n (o .session) ls ts way (l .state) (On to rule) ls′ ts′) where
       -- the bullets after the step, and that there is such a number
@@ -165,8 +180,8 @@ module _ {way : Way} {w : List ℕ} {n : ℕ} {r : Room} {run : Run} {count : �
       pub loop-weighable : Weighable n to (bulletsAfter rule b)
       loop-weighable = weighable (p .4) still-counted
 
-      pub loop-goes-on : Loop way w n r run count (lengthenedTo o n to (bulletsAfter rule b)) (bulletsAfter rule b) ls′ ts′
-      loop-goes-on =
+      pub loop-goes-on : isOn v (p .0) ≡ false → Loop way w n r v run count (lengthenedTo o n to (bulletsAfter rule b)) (bulletsAfter rule b) ls′ ts′
+      loop-goes-on away =
           let (u, by-rule, e, stops, h, el, et) = p in
           let m : Moment = moment u (to .position) in
           record {
@@ -178,6 +193,21 @@ module _ {way : Way} {w : List ℕ} {n : ℕ} {r : Room} {run : Run} {count : �
             counted = still-counted;
             high = omega (arith, weighs h still-counted);
             left =
-                ap (λ q. precededBy (o .steps + 1) (max (o .peak) q) (wind way (tableIn w n) r still m)) (weighs h still-counted)
-                ∙ sym (left-by (suc still) one-left ∙ one-more way (tableIn w n) r (o .steps) (o .peak) standing (l .high) still m (stop-here none stops) e);
+                ap (λ q. precededBy (o .steps + 1) (max (o .peak) q) (seek way (tableIn w n) r v still m)) (weighs h still-counted)
+                ∙ sym (left-by (suc still) one-left ∙ one-more way (tableIn w n) r v (o .steps) (o .peak) standing (l .high) still m (stop-here none stops) e away);
           }
+
+      -- A step to a visit ends the run there.
+      pub loop-found : isOn v (p .0) ≡ true → outcomeMeant (endedBy (lengthenedTo o n to (bulletsAfter rule b)) Found) ls′ ts′ ≡ wound r run
+      loop-found there =
+          let (u, by-rule, e, stops, h, el, et) = p in
+          let m : Moment = moment u (to .position) in
+          comes-out (lengthenedTo o n to (bulletsAfter rule b)) h r (λ i. record { log = (el ∙ l .same-log) i; tape = (et ∙ l .same-tape) i }) run Found
+          (left-by (suc still) one-left
+          ∙ found-there way (tableIn w n) r v (o .steps) (o .peak) standing (l .high) still m (stop-here none stops) e there
+          ∙ ap (λ q. endedAfter (o .steps + 1) (max (o .peak) q) m found) (sym (weighs h still-counted)))
+
+-- Whether the token stands on a spot, by its session.
+pub token-on : {w : List ℕ} {n : ℕ} {se : Declared.Session} {ls ts : List ℕ} {s : State} → TokenAt w n se ls ts s → (v : Spot)
+    → isOn v s ≡ eqb (se .node) (v .node) && sameDir (dirMeant (se .dir)) (v .dir)
+token-on h v = ap₂ (λ i d. eqb i (v .node) && sameDir d (v .dir)) (sym (h .enters .holds .node-is)) (sym (h .enters .holds .dir-is))

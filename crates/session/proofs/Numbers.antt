@@ -13,7 +13,8 @@ use Rattle.machine.specs.Slice.{slice}
 use Rattle.calls.specs.Session.{Given}
 use Rattle.calls.specs.Stops.{startMoment}
 use Rattle.calls.specs.Calls.{lentNumber, stateGiven, callNumber, noSession, sessionAt, openOf}
-use Rattle.calls.proofs.Unrefused.{lent-names, call-names, call-nine, call-unrefused}
+use Rattle.calls.specs.Visits.{visitNumber}
+use Rattle.calls.proofs.Unrefused.{lent-names, call-names, call-nine, call-unrefused, visit-names}
 use Rattle.session.specs.Types.{numberMeant}
 
 pub number-some : (o : Option ℕ) (k : ℕ) → k ≡ numberMeant o → (k ≡ 0 → ⊥) → o ≡ some k
@@ -30,6 +31,9 @@ lent-none w n ls ts = number-none (lentNumber w n ls ts) (λ k h z. let from-sev
 module _ (g : Given) where
   pub call-none : 0 ≡ numberMeant (callNumber g) → callNumber g ≡ none
   call-none = number-none (callNumber g) (λ k h z. let from-seven = call-names g k h .0 in omega arith)
+
+  pub visited-none : (i : ℕ) → 0 ≡ numberMeant (visitNumber i g) → visitNumber i g ≡ none
+  visited-none i = number-none (visitNumber i g) (λ k h z. let from-seven = visit-names i g k h in omega arith)
 
   -- 9 or none, by whether there is a state
   module _ (e : lentNumber (g .table) (g .n) (g .log) (g .tape) ≡ none) where

@@ -10,7 +10,7 @@ use Rattle.session.specs.declared.Dir.{Dir}
 use Rattle.session.specs.declared.Dir.the-variants.{Down, Up}
 use Rattle.session.specs.declared.Session as Declared
 use Rattle.session.specs.declared.Stop.{Stop}
-use Rattle.session.specs.declared.Stop.the-variants.{Spent, Answer, Jam, Far, Start, LogFull, TapeFull, Refused}
+use Rattle.session.specs.declared.Stop.the-variants.{Spent, Answer, Jam, Far, Start, LogFull, TapeFull, Refused, Found, None}
 use Rattle.session.specs.declared.Which.{Which}
 use Rattle.session.specs.declared.Which.the-variants.{Log, Tape}
 use Rattle.session.specs.declared.Opening.{Opening}
@@ -53,6 +53,8 @@ stopBack Session.logFull = LogFull
 stopBack Session.tapeFull = TapeFull
 stopBack (Session.answer i) = Answer i
 stopBack (Session.refused k) = Refused k
+stopBack Session.found = Found
+stopBack Session.none = None
 
 stop-back : (x : Stop) → stopBack (stopMeant x) ≡ x
 unfolding stopBack
@@ -64,6 +66,8 @@ stop-back Start = refl
 stop-back LogFull = refl
 stop-back TapeFull = refl
 stop-back (Refused k) = refl
+stop-back Found = refl
+stop-back None = refl
 
 pub stop-once : (x y : Stop) → stopMeant x ≡ stopMeant y → x ≡ y
 stop-once = from-back (λ x. stopMeant x) stopBack stop-back

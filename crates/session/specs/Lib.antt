@@ -6,3 +6,4 @@ pub mod Steps
 pub mod Rules
 pub mod Weight
 pub mod Passes
+pub mod Visits

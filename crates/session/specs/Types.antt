@@ -10,7 +10,7 @@ use Rattle.session.specs.declared.Dir.{Dir}
 use Rattle.session.specs.declared.Dir.the-variants.{Down, Up}
 use Rattle.session.specs.declared.Session as Declared
 use Rattle.session.specs.declared.Stop.{Stop}
-use Rattle.session.specs.declared.Stop.the-variants.{Spent, Answer, Jam, Far, Start, LogFull, TapeFull, Refused}
+use Rattle.session.specs.declared.Stop.the-variants.{Spent, Answer, Jam, Far, Start, LogFull, TapeFull, Refused, Found, None}
 use Rattle.session.specs.declared.Which.{Which}
 use Rattle.session.specs.declared.Which.the-variants.{Log, Tape}
 use Rattle.session.specs.declared.Opening.{Opening}
@@ -48,6 +48,8 @@ stopMeant Start = Session.start
 stopMeant LogFull = Session.logFull
 stopMeant TapeFull = Session.tapeFull
 stopMeant (Refused k) = Session.refused k
+stopMeant Found = Session.found
+stopMeant None = Session.none
 
 -- An answer together with both slices at exit.
 abbrev pub openingMeant : Opening → List ℕ → List ℕ → Session.Opening

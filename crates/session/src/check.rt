@@ -1,4 +1,4 @@
-// The numbers 7, 8 and 9, in their order of test.
+// The numbers 7, 8, 9 and 12, in their order of test.
 ghost use mathlib.Core.Path.{_≡_};
 ghost use mathlib.Core.Bool.{true, false, not};
 ghost use Prim.Native.Nat.{_^_, _<_, _≤_};
@@ -10,6 +10,7 @@ ghost use Rattle.machine.specs.Slice.{allZero};
 ghost use Rattle.calls.specs.Held.{stateIn};
 ghost use Rattle.session.specs.Counting.{countEntry, isBullet, haveWords, haveLog, haveTape, CountIs};
 ghost use Rattle.calls.specs.Calls.{lentNumber, callNumber};
+ghost use Rattle.calls.specs.Visits.{visitNumber};
 ghost use Rattle.session.specs.Types.{sessionMeant, lent, numberMeant};
 use crate::Session;
 use crate::extent::arity;
@@ -168,4 +169,25 @@ pub(crate) fn call_number(table: &[u32], n: u32, session: Session, log: &[u32], 
     } else {
         9
     }
+}
+
+// The number that refuses the calls to a node, or 0.
+pub(crate) fn visit_number(
+    table: &[u32],
+    n: u32,
+    session: Session,
+    log: &[u32],
+    tape: &[u32],
+    node: u32,
+) -> u32
+    ensures { λ r. ⌜ r ≡ numberMeant (visitNumber node (lent (now (table .entry)) n session (now (log .entry)) (now (tape .entry)))) ⌝ }
+{
+    let number = call_number(table, n, session, log, tape);
+    if number != 0 {
+        return number;
+    }
+    if node == 0 {
+        return 12;
+    }
+    if node > n { 12 } else { 0 }
 }

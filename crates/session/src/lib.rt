@@ -1,9 +1,11 @@
-// Sessions on a term: open, forward, back and go-to (document 01, "A session and its calls"), and the top entry of log or tape (document 02, change 1).
+// Sessions on a term: open, forward, back and go-to (document 01, "A session and its calls"), the top entry of log or tape (document 02, change 1), and back and forward to a
+// chosen node in a chosen direction (document 02, change 5).
 ghost use mathlib.Core.Path.{_≡_};
 ghost use lib.ListN.{length, replicate};
 ghost use Rattle.calls.specs.Calls.{openOf, windOf, forwardOf, backOf, goToOf};
 ghost use Rattle.calls.specs.Top.{asTold, topOf, seen};
-ghost use Rattle.session.specs.Types.{openingMeant, outcomeMeant, wayMeant, whichMeant, lent, wordPtr};
+ghost use Rattle.calls.specs.Visits.{spot, backToOf, forwardToOf};
+ghost use Rattle.session.specs.Types.{openingMeant, outcomeMeant, wayMeant, whichMeant, dirMeant, lent, wordPtr};
 ghost use Rattle.session.specs.Passes.{Refuses};
 
 mod check;
@@ -12,12 +14,16 @@ mod extent;
 mod mover;
 mod part;
 mod rules;
+mod visits;
 mod weight;
 mod winding;
 
 use check::call_number;
+use check::visit_number;
 use part::top_place;
+use visits::seek_back;
 use winding::Way;
+use winding::seek;
 use winding::wind;
 
 // Which way the token goes.
@@ -35,7 +41,7 @@ pub struct Session {
     pub tape_len: u32,
 }
 
-// Why a call ended. A refusal's number comes instead of a stop.
+// Why a call ended. A refusal's number comes instead of a stop. Found and None are said by the calls to a node alone.
 pub enum Stop {
     Spent,
     Answer(u32),
@@ -45,6 +51,8 @@ pub enum Stop {
     LogFull,
     TapeFull,
     Refused(u32),
+    Found,
+    None,
 }
 
 // One of the two lists that the token carries.
@@ -59,7 +67,7 @@ pub struct Opening {
     pub refusal: u32,
 }
 
-// What forward, back and go-to answer. The peak is the greatest weight over the states stood in, in bits (document 02, change 2).
+// What the calls that wind answer. The peak is the greatest weight over the states stood in, in bits (document 02, change 2).
 pub struct Outcome {
     pub session: Session,
     pub steps: u32,
@@ -190,6 +198,47 @@ pub fn go_to(
     } else {
         back(table, n, session, log, tape, here - position)
     }
+}
+
+// Back to the last earlier position at which the token stood on the node in the direction, found; or none, with the session and every word as given. The present position is not one.
+pub fn back_to(
+    table: &[u32],
+    n: u32,
+    session: Session,
+    log: &mut [u32],
+    tape: &mut [u32],
+    node: u32,
+    dir: Dir,
+) -> Outcome
+    ensures { λ r. ⌜ outcomeMeant r (now (log .exit)) (now (tape .exit))
+        ≡ backToOf (lent (now (table .entry)) n session (now (log .entry)) (now (tape .entry))) (spot node (dirMeant dir)) ⌝ }
+{
+    let number = visit_number(table, n, session, &log[..], &tape[..], node);
+    if number != 0 {
+        return refused_outcome(session, number);
+    }
+    seek_back(table, n, session, log, tape, node, dir)
+}
+
+// Forward to the first later position at which the token stands on the node in the direction, if forward by the count reaches one; else as forward by the count.
+pub fn forward_to(
+    table: &[u32],
+    n: u32,
+    session: Session,
+    log: &mut [u32],
+    tape: &mut [u32],
+    node: u32,
+    dir: Dir,
+    count: u32,
+) -> Outcome
+    ensures { λ r. ⌜ outcomeMeant r (now (log .exit)) (now (tape .exit))
+        ≡ forwardToOf (lent (now (table .entry)) n session (now (log .entry)) (now (tape .entry))) (spot node (dirMeant dir)) count ⌝ }
+{
+    let number = visit_number(table, n, session, &log[..], &tape[..], node);
+    if number != 0 {
+        return refused_outcome(session, number);
+    }
+    seek(table, n, session, log, tape, Way::Forward, count, node, dir)
 }
 
 // The top entry of log or tape, or the bullet on top of the tape, as that part of the lent slice itself, its top word last; empty where it is refused. The number,

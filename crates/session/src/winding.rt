@@ -1,11 +1,13 @@
-// The steps of a call: forward or back until a stop.
+// The steps of a call: forward or back until a stop, or until the token stands on a chosen node in a chosen direction.
 ghost use mathlib.Core.Path.{_≡_};
 ghost use Prim.Native.Nat.{_+_, max, _≤_, _<_};
 ghost use lib.ListN.{length};
 ghost use Rattle.machine.specs.Machine.{turned as otherDir};
+ghost use Rattle.calls.specs.Visits.{spot};
 ghost use Rattle.session.specs.Types.{dirMeant, sessionMeant, wayMeant};
 ghost use Rattle.session.specs.Steps.{Ready, arrivedAt};
 ghost use Rattle.session.specs.Passes.{turnedSession, facingSession, HasNext, sessionAfter, TellsBefore, Passes, begunAt, lengthenedTo, endedBy, Winds};
+ghost use Rattle.session.specs.Visits.{Seeks};
 ghost use Rattle.session.specs.Weight.{Weighable};
 use crate::Dir;
 use crate::Outcome;
@@ -18,6 +20,7 @@ use crate::rules::Arrival;
 use crate::rules::Stepped;
 use crate::rules::is_answer;
 use crate::rules::step;
+use crate::visits::stands_on;
 use crate::weight::bullets_after;
 use crate::weight::bullets_in;
 use crate::weight::weight;
@@ -211,7 +214,7 @@ fn lengthened(run: Outcome, n: u32, to: Session, bullets: u32) -> Outcome
 }
 
 // The outcome with another stop than spent.
-fn halted(run: Outcome, stop: Stop) -> Outcome
+pub(crate) fn halted(run: Outcome, stop: Stop) -> Outcome
     ensures { λ r. ⌜ r ≡ endedBy run stop ⌝ }
 {
     let session = run.session;
@@ -223,8 +226,9 @@ fn halted(run: Outcome, stop: Stop) -> Outcome
     }
 }
 
-// At most `count` passes, and the peak over the states stood in. The bullets are counted once, and then kept count of.
-pub(crate) fn wind(
+// At most `count` passes, and the peak over the states stood in; found as soon as a step leads to the node in the direction. Where the token stands at first is not looked at. The bullets
+// are counted once, and then kept count of.
+pub(crate) fn seek(
     table: &[u32],
     n: u32,
     session: Session,
@@ -232,9 +236,11 @@ pub(crate) fn wind(
     tape: &mut [u32],
     way: Way,
     count: u32,
+    node: u32,
+    dir: Dir,
 ) -> Outcome
     requires { ⌜ Ready (now table) n session (now log) (now tape) ⌝ }
-    ensures { λ r. ⌜ Winds (now (table .entry)) n session (now (log .entry)) (now (tape .entry)) way count r (now (log .exit)) (now (tape .exit)) ⌝ }
+    ensures { λ r. ⌜ Seeks (now (table .entry)) n session (now (log .entry)) (now (tape .entry)) way count (spot node (dirMeant dir)) r (now (log .exit)) (now (tape .exit)) ⌝ }
 {
     let mut bullets = bullets_in(&tape[..session.tape_len as usize]);
     let mut run = begun(n, session, bullets);
@@ -248,8 +254,27 @@ pub(crate) fn wind(
             Pass::On(to, rule) => {
                 bullets = bullets_after(rule, bullets);
                 run = lengthened(run, n, to, bullets);
+                if stands_on(to, node, dir) {
+                    return halted(run, Stop::Found);
+                }
             }
         }
     }
     run
+}
+
+// At most `count` passes: a search for node 0, on which the token never stands.
+pub(crate) fn wind(
+    table: &[u32],
+    n: u32,
+    session: Session,
+    log: &mut [u32],
+    tape: &mut [u32],
+    way: Way,
+    count: u32,
+) -> Outcome
+    requires { ⌜ Ready (now table) n session (now log) (now tape) ⌝ }
+    ensures { λ r. ⌜ Winds (now (table .entry)) n session (now (log .entry)) (now (tape .entry)) way count r (now (log .exit)) (now (tape .exit)) ⌝ }
+{
+    seek(table, n, session, log, tape, way, count, 0, Dir::Down)
 }

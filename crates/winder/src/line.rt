@@ -85,6 +85,8 @@ pub(crate) fn is_spent(stop: Stop) -> bool {
         Stop::LogFull => false,
         Stop::TapeFull => false,
         Stop::Refused(_) => false,
+        Stop::Found => false,
+        Stop::None => false,
     }
 }
 
@@ -101,6 +103,8 @@ pub(crate) fn put_stop(out: &mut [u8], at: usize, x: Stop) -> usize
         Stop::LogFull => put_named(out, at, b"log full"),
         Stop::TapeFull => put_named(out, at, b"tape full"),
         Stop::Refused(k) => put_numbered(out, at, b"refused ", k),
+        Stop::Found => put_named(out, at, b"found"),
+        Stop::None => put_named(out, at, b"none"),
     }
 }
 

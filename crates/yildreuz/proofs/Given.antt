@@ -1,11 +1,11 @@
--- The law behind forward, back and go-to: a call made with `madeWith`, its outcome told by `givenBack`, is the call on the session that the numbers stand for.
+-- The law behind the calls that wind: a call made with `madeWith`, its outcome told by `givenBack`, is the call on the session that the numbers stand for.
 use mathlib.Core.Path.{_≡_, refl, sym, ap, _∙_}
 use mathlib.Core.Option.{Option, none, some}
 use mathlib.Core.List.{List}
 use Prim.Native.Nat.{ℕ, zero, suc}
 use native.Mathlib.Omega.{arith}
 use borrow.Author.Tests.{lt-ltb}
-use Rattle.calls.specs.Session.{Session, Stop, spent, jam, far, start, logFull, tapeFull, answer, refused, Outcome, Given}
+use Rattle.calls.specs.Session.{Session, Stop, spent, jam, far, start, logFull, tapeFull, found, answer, refused, Outcome, Given}
 use Rattle.calls.specs.Held.{wellFormed, stateIn}
 use Rattle.calls.specs.Calls.{lentNumber, stateGiven, callNumber}
 use Rattle.calls.specs.Demand.{Move, outcomeOf}
@@ -42,6 +42,8 @@ given-told s o back = ap (λ z. toldWith z o) (by-stop (o .stop) refl)
     by-stop start e = refl
     by-stop logFull e = refl
     by-stop tapeFull e = refl
+    by-stop found e = refl
+    by-stop Stop.none e = refl
     by-stop (refused k) e = sym (back k e)
 
 module _ (m : Move) (w : List ℕ) (n : ℕ) (s : HostSession) (ls ts : List ℕ) where

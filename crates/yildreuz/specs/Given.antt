@@ -4,22 +4,26 @@ use mathlib.Core.List.{List}
 use Prim.Native.Nat.{ℕ}
 use lib.Dec.{ltb, eqb}
 use Rattle.machine.specs.Machine.{down, up}
-use Rattle.calls.specs.Session.{Session, Stop, spent, jam, far, start, logFull, tapeFull, answer, refused, Outcome}
+use Rattle.calls.specs.Session.{Session, Stop, spent, jam, far, start, logFull, tapeFull, found, answer, refused, Outcome}
 use Rattle.calls.specs.Stops.{forward, back}
+use Rattle.calls.specs.Visits.{spot}
 use Rattle.calls.specs.Demand
-use Rattle.calls.specs.Demand.{by, go-to}
+use Rattle.calls.specs.Demand.{by, go-to, back-to, forward-to}
 use Rattle.yildreuz.specs.declared.Move.{Move}
-use Rattle.yildreuz.specs.declared.Move.the-variants.{Forward, Back, GoTo}
+use Rattle.yildreuz.specs.declared.Move.the-variants.{Forward, Back, GoTo, BackTo, ForwardTo}
 use Rattle.face.specs.declared.HostSession.{HostSession}
 use Rattle.face.specs.declared.HostOutcome.{HostOutcome}
 use Rattle.face.specs.Numbers.{sessionNumbers}
 use Rattle.face.specs.Told.{toldWith}
+use Rattle.session.specs.Types.{dirMeant}
 
--- the call of document 01 that winds
+-- the call of documents 01 and 02 that winds
 abbrev pub moveMeant : Move → Demand.Move
 moveMeant (Forward c) = by forward c
 moveMeant (Back c) = by back c
 moveMeant (GoTo q) = go-to q
+moveMeant (BackTo i d) = back-to (spot i (dirMeant d))
+moveMeant (ForwardTo i d c) = forward-to (spot i (dirMeant d)) c
 
 -- Numbers without a direction are taken to stand at node 0, which no table has, so that the call itself finds 7, 8 or 9.
 abbrev pub madeWith : HostSession → Session
@@ -40,6 +44,8 @@ keptSession given far next = next
 keptSession given start next = next
 keptSession given logFull next = next
 keptSession given tapeFull next = next
+keptSession given found next = next
+keptSession given Stop.none next = next
 keptSession given (refused k) next = given
 
 abbrev pub givenBack : HostSession → Outcome → HostOutcome × List ℕ × List ℕ

@@ -3,8 +3,10 @@ ghost use mathlib.Core.Path.{_≡_};
 ghost use Rattle.text.specs.Reading.{readOf};
 ghost use Rattle.text.specs.Writing.{writeOf};
 ghost use Rattle.calls.specs.Calls.{openOf, forwardOf, backOf, goToOf};
+ghost use Rattle.calls.specs.Visits.{backToOf, forwardToOf};
 ghost use Rattle.calls.specs.Demand.{outcomeOf};
 ghost use Rattle.session.specs.Types.{outcomeMeant, lent};
+ghost use Rattle.face.specs.Numbers.{spotIn};
 ghost use Rattle.face.specs.Told.{readTold, writeTold, openTold, called, topCalled};
 ghost use Rattle.yildreuz.specs.Given.{moveMeant};
 
@@ -17,6 +19,8 @@ use face::HostPart;
 use face::HostReading;
 use face::HostSession;
 use face::HostWritten;
+use numbers::chosen_dir;
+use numbers::chosen_node;
 use numbers::given_back;
 use numbers::made_with;
 use numbers::session_numbers;
@@ -25,6 +29,7 @@ use parts::list_named;
 use parts::number_told;
 use parts::part_told;
 use parts::top_size;
+use session::Dir;
 use session::Outcome;
 use session::Session;
 
@@ -72,11 +77,13 @@ pub extern "C" fn yildreuz_open(
     }
 }
 
-// Which of the calls that wind, and its number.
+// Which of the calls that wind, and its numbers.
 enum Move {
     Forward(u32),
     Back(u32),
     GoTo(u32),
+    BackTo(u32, Dir),
+    ForwardTo(u32, Dir, u32),
 }
 
 // The call itself.
@@ -95,6 +102,10 @@ fn call_made(
         Move::Forward(count) => session::forward(table, n, session, log, tape, count),
         Move::Back(count) => session::back(table, n, session, log, tape, count),
         Move::GoTo(position) => session::go_to(table, n, session, log, tape, position),
+        Move::BackTo(node, dir) => session::back_to(table, n, session, log, tape, node, dir),
+        Move::ForwardTo(node, dir, count) => {
+            session::forward_to(table, n, session, log, tape, node, dir, count)
+        }
     }
 }
 
@@ -158,6 +169,45 @@ pub extern "C" fn yildreuz_go_to(
         ≡ called (λ g. goToOf g position) (now (table .entry)) n session (now (log .entry)) (now (tape .entry)) ⌝ }
 {
     call(table, n, session, log, tape, Move::GoTo(position))
+}
+
+// Back to the last earlier position at which the token stood on a node in a direction.
+#[no_mangle]
+pub extern "C" fn yildreuz_back_to(
+    table: &[u32],
+    n: u32,
+    session: HostSession,
+    log: &mut [u32],
+    tape: &mut [u32],
+    node: u32,
+    direction: u32,
+) -> HostOutcome
+    ensures { λ r. ⌜ (r, now (log .exit), now (tape .exit))
+        ≡ called (λ g. backToOf g (spotIn node direction)) (now (table .entry)) n session (now (log .entry)) (now (tape .entry)) ⌝ }
+{
+    let i = chosen_node(node, direction);
+    let dir = chosen_dir(direction);
+    call(table, n, session, log, tape, Move::BackTo(i, dir))
+}
+
+// Forward by a count, or to the first later position that it reaches at which the token stands on a node in a direction.
+#[no_mangle]
+pub extern "C" fn yildreuz_forward_to(
+    table: &[u32],
+    n: u32,
+    session: HostSession,
+    log: &mut [u32],
+    tape: &mut [u32],
+    node: u32,
+    direction: u32,
+    count: u32,
+) -> HostOutcome
+    ensures { λ r. ⌜ (r, now (log .exit), now (tape .exit))
+        ≡ called (λ g. forwardToOf g (spotIn node direction) count) (now (table .entry)) n session (now (log .entry)) (now (tape .entry)) ⌝ }
+{
+    let i = chosen_node(node, direction);
+    let dir = chosen_dir(direction);
+    call(table, n, session, log, tape, Move::ForwardTo(i, dir, count))
 }
 
 // Where the top entry lies in the lent slice. The number goes out through `refusal`.

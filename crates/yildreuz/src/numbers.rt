@@ -1,9 +1,9 @@
-// Directions, sessions, stops and outcomes in numbers, and a host's numbers as a session.
+// Directions, sessions, stops and outcomes in numbers, and a host's numbers as a session, and as a node in a direction.
 ghost use mathlib.Core.Path.{_≡_};
 ghost use mathlib.Core.List.{List};
 ghost use Prim.Native.Nat.{ℕ};
 ghost use Rattle.session.specs.Types.{dirMeant, sessionMeant, stopMeant, outcomeMeant};
-ghost use Rattle.face.specs.Numbers.{dirNumber, sessionNumbers, stopCode, stopValue};
+ghost use Rattle.face.specs.Numbers.{dirNumber, sessionNumbers, stopCode, stopValue, spotIn};
 ghost use Rattle.yildreuz.specs.Given.{madeWith, keptSession, givenBack};
 use face::HostOutcome;
 use face::HostSession;
@@ -49,6 +49,19 @@ pub(crate) fn made_with(s: HostSession) -> Session
     }
 }
 
+// A chosen direction above 1 is no direction: the node is then 0, which the calls to a node refuse with 12, after 9.
+pub(crate) fn chosen_node(node: u32, direction: u32) -> u32
+    ensures { λ r. ⌜ r ≡ spotIn node direction .node ⌝ }
+{
+    if 1 < direction { 0 } else { node }
+}
+
+pub(crate) fn chosen_dir(direction: u32) -> Dir
+    ensures { λ r. ⌜ ((i : ℕ) → dirMeant r ≡ spotIn i direction .dir) ⌝ }
+{
+    if direction == 1 { Dir::Up } else { Dir::Down }
+}
+
 fn stop_code(stop: Stop) -> u32
     ensures { λ r. ⌜ r ≡ stopCode (stopMeant stop) ⌝ }
 {
@@ -61,6 +74,8 @@ fn stop_code(stop: Stop) -> u32
         Stop::LogFull => 5,
         Stop::TapeFull => 6,
         Stop::Refused(_) => 7,
+        Stop::Found => 8,
+        Stop::None => 9,
     }
 }
 
@@ -76,6 +91,8 @@ fn stop_value(stop: Stop) -> u32
         Stop::LogFull => 0,
         Stop::TapeFull => 0,
         Stop::Refused(k) => k,
+        Stop::Found => 0,
+        Stop::None => 0,
     }
 }
 
@@ -92,6 +109,8 @@ fn kept_session(given: HostSession, stop: Stop, next: HostSession) -> HostSessio
         Stop::LogFull => next,
         Stop::TapeFull => next,
         Stop::Refused(_) => given,
+        Stop::Found => next,
+        Stop::None => next,
     }
 }
 

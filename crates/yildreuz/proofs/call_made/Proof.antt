@@ -21,6 +21,18 @@ enum-known-m-3 c = search needs
 go-to-requires : tie.Need-go-to-requires
 go-to-requires c κs = search needs
 
+enum-known-m-4 : tie.Need-enum-known-m-4
+enum-known-m-4 c = search needs
+
+back-to-requires : tie.Need-back-to-requires
+back-to-requires c κs = search needs
+
+enum-known-m-5 : tie.Need-enum-known-m-5
+enum-known-m-5 c = search needs
+
+forward-to-requires : tie.Need-forward-to-requires
+forward-to-requires c κs = search needs
+
 same-length : tie.Need-same-length
 same-length c = search needs
 
@@ -48,6 +60,24 @@ same-length-6 c = search needs
 returns-3 : tie.Need-returns-3
 returns-3 c = let made = c .before .before .before .before in rw (made .before .before .before .before .m3 .given .1) (made .go-to .ensures)
 
+same-length-7 : tie.Need-same-length-7
+same-length-7 c = search needs
+
+same-length-8 : tie.Need-same-length-8
+same-length-8 c = search needs
+
+returns-4 : tie.Need-returns-4
+returns-4 c = let made = c .before .before .before .before in rw (made .before .before .before .before .m4 .given .1) (made .back-to .ensures)
+
+same-length-9 : tie.Need-same-length-9
+same-length-9 c = search needs
+
+same-length-10 : tie.Need-same-length-10
+same-length-10 c = search needs
+
+returns-5 : tie.Need-returns-5
+returns-5 c = let made = c .before .before .before .before in rw (made .before .before .before .before .m5 .given .1) (made .forward-to .ensures)
+
 pub call-made-spec : {M : Type 1} → statement M
 call-made-spec =
     tie.close
@@ -58,6 +88,10 @@ call-made-spec =
     back-requires
     enum-known-m-3
     go-to-requires
+    enum-known-m-4
+    back-to-requires
+    enum-known-m-5
+    forward-to-requires
     same-length
     same-length-2
     returns
@@ -66,4 +100,10 @@ call-made-spec =
     returns-2
     same-length-5
     same-length-6
-    returns-3)
+    returns-3
+    same-length-7
+    same-length-8
+    returns-4
+    same-length-9
+    same-length-10
+    returns-5)

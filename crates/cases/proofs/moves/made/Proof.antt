@@ -6,12 +6,18 @@ use Rattle.cases.proofs.moves.made.Statement.{statement}
 use Rattle.cases.proofs.moves.made.Tie as tie
 
 abbrev Inv-loop : tie.InvT-loop
-Inv-loop row table log₀ tape₀ count walks compared left₀ steps₀ d₀ agreed₀ log tape left steps d agreed =
+Inv-loop line row table log₀ tape₀ which count walks compared left₀ steps₀ d₀ agreed₀ log tape left steps d agreed =
     (length log ≡ length log₀) × (length tape ≡ length tape₀)
 
 abbrev μ-loop : tie.MeasureT-loop
-μ-loop row table log₀ tape₀ count walks compared left₀ steps₀ d₀ agreed₀ log tape left steps d agreed =
+μ-loop line row table log₀ tape₀ which count walks compared left₀ steps₀ d₀ agreed₀ log tape left steps d agreed =
     left
+
+call-of-requires : tie.Need-call-of-requires Inv-loop μ-loop
+call-of-requires c κs = search needs
+
+count-of-requires : tie.Need-count-of-requires Inv-loop μ-loop
+count-of-requires c κs = search needs
 
 is-walk-requires : tie.Need-is-walk-requires Inv-loop μ-loop
 is-walk-requires c κs = search needs
@@ -27,9 +33,6 @@ first-count-requires c κs = search needs
 
 loop-holds : tie.Need-loop-holds Inv-loop μ-loop
 loop-holds c = search needs
-
-call-of-requires : tie.Need-call-of-requires Inv-loop μ-loop
-call-of-requires c κs = search needs
 
 after-call-requires : tie.Need-after-call-requires Inv-loop μ-loop
 after-call-requires c κs = search needs
@@ -67,12 +70,13 @@ made-spec =
     (tie.spec
     Inv-loop
     μ-loop
+    call-of-requires
+    count-of-requires
     is-walk-requires
     is-compared-requires
     how-often-requires
     first-count-requires
     loop-holds
-    call-of-requires
     after-call-requires
     agrees-requires
     wrapping-add-u32-requires

@@ -1,0 +1,128 @@
+-- Back, and forward again by the steps made: each step taken back is made again, and the walk ends as spent where it began.
+use mathlib.Core.Path.{_≡_, refl, sym, ap, _∙_}
+use mathlib.Core.Bool.{Bool, true, false, false≢true}
+use mathlib.Core.Option.{Option, none, some, Option·some-injective, Option·none-ne-some, Option·some-ne-none}
+use mathlib.Core.List.{[], _∷_}
+use Prim.Native.Nat.{ℕ, zero, suc, _+_, _-_, _≤_}
+use native.Mathlib.Nat.{add-zero}
+use native.Mathlib.Omega.{arith}
+use Rattle.term.specs.Table.{Table, Kind, variable, abstraction, application, nothing, kindAt}
+use Rattle.term.specs.Facts.{Facts}
+use Rattle.machine.specs.Entries.{Log, Tape}
+use Rattle.machine.specs.Machine.{Dir, down, up, State, goDown, stepBy, step, stepBack}
+use Rattle.machine.specs.Good.{Good}
+use Rattle.machine.proofs.Reverse.{back-redone, back-keeps-good}
+use Rattle.calls.specs.Session.{Stop, spent}
+use Rattle.calls.specs.Stops.{forward, back, Moment, moment, Room, greatest, nextBy, isAnswerBy, isAnswer, stopBefore}
+use Rattle.calls.specs.Winding.{Run, ended, wind}
+use Rattle.calls.proofs.Stops.{Fits, no-halt-forward, start-before-jam, halt-before-full, no-stop-next, fits-next}
+use Rattle.calls.proofs.Winds.{each-run}
+use Rattle.calls.proofs.Runs.{Trail, begun, then, trail-none}
+use Rattle.calls.proofs.Visits.{wind-none, wind-goes-on}
+
+-- A state with a step is no answer.
+stuck : (T : Table) (i : ℕ) (k : Kind) (d : Dir) (L : Log) (t : Tape) → kindAt T i ≡ k → isAnswerBy k d t ≡ true → stepBy T i d L t ≡ none
+unfolding stepBy goDown
+stuck T i abstraction down L [] e h = rw e
+stuck T i abstraction down L (x ∷ t) e h = absurd (false≢true h)
+stuck T i abstraction up L t e h = absurd (false≢true h)
+stuck T i variable d L t e h = absurd (false≢true h)
+stuck T i application d L t e h = absurd (false≢true h)
+stuck T i nothing d L t e h = absurd (false≢true h)
+
+unanswered : (T : Table) (s u : State) → step T s ≡ some u → isAnswer T s ≡ false
+unanswered T s u e = by-test (isAnswer T s) refl
+  where
+    by-test : (b : Bool) → isAnswer T s ≡ b → isAnswer T s ≡ false
+    by-test false h = h
+    by-test true h = absurd (Option·some-ne-none u (sym e ∙ stuck T (s .node) (kindAt T (s .node)) (s .dir) (s .log) (s .tape) refl h))
+
+module _ (T : Table) (r : Room) where
+  -- a trail by its first step
+  record First (s₀ : State) (k : ℕ) (s : State) : Type 0 where
+    next : State
+    steps : step T s₀ ≡ some next
+    fits : Fits r next
+    trail : Trail T r next k s
+
+  trail-first : {s₀ : State} (k : ℕ) {s : State} → Trail T r s₀ (suc k) s → First s₀ k s
+  trail-first zero (then {s = s} begun e f) = record { next = s; steps = e; fits = f; trail = begun }
+  trail-first (suc k) (then t e f) = let h = trail-first k t in record { next = h .next; steps = h .steps; fits = h .fits; trail = then (h .trail) e f }
+
+  -- A run to the end of a trail, as many steps as it has.
+  record Along (k p : ℕ) (s : State) (run : Run) : Type 0 where
+    last-is : run .last ≡ moment s (p + k)
+    steps-are : run .steps ≡ k
+    spent-is : run .stop ≡ spent
+
+  along : (k p : ℕ) {s₀ s : State} → Trail T r s₀ k s → p + k ≤ greatest → Along k p s (wind forward T r k (moment s₀ p))
+  along zero p {s₀} {s} t l =
+      rw (wind-none forward T r (moment s₀ p))
+      (record { last-is = (let e : p ≡ p + 0 = sym (add-zero p) in λ i. moment (trail-none T r s₀ t i) (e i)); steps-are = refl; spent-is = refl })
+  along (suc k) p {s₀} {s} t l =
+      let f : First s₀ k s = trail-first k t in
+      let m : Moment = moment s₀ p in
+      let u : Moment = moment (f .next) (suc p) in
+      let near : p ≡ greatest → ⊥ = (λ e. omega arith) in
+      let free : stopBefore forward T r (suc k) m ≡ none =
+      no-stop-next forward T r (suc k) m (no-halt-forward T k m (unanswered T s₀ (f .next) (f .steps)) (f .next) (f .steps) near) u (rw (f .steps)) (f .fits) in
+      let h : Along k (suc p) s (wind forward T r k u) = along k (suc p) (f .trail) (omega arith) in
+      rw (wind-goes-on forward T r k m u free (rw (f .steps)) k)
+      (record {
+        last-is = h .last-is ∙ (let e : suc p + k ≡ p + suc k = omega arith in ap (moment s) e);
+        steps-are = ap suc (h .steps-are);
+        spent-is = h .spent-is;
+      })
+
+  -- A run back leaves the trail on which the machine comes forward again.
+  pub record Backed (m : Moment) (run : Run) : Type 0 where
+    pub trail : Trail T r (run .last .state) (run .steps) (m .state)
+    pub good : Good T (run .last .state)
+    pub fits : Fits r (run .last .state)
+    pub position-is : run .last .position + run .steps ≡ m .position
+
+  module _ (F : Facts T) where
+    backed-nowhere : (m : Moment) (x : Stop) → Good T (m .state) → Fits r (m .state) → Backed m (ended T m x)
+    backed-nowhere m x g f = record { trail = begun; good = g; fits = f; position-is = add-zero (m .position) }
+
+    past-start : (c : ℕ) (m : Moment) → stopBefore back T r (suc c) m ≡ none → m .position ≡ 0 → ⊥
+    past-start c m e z = Option·some-ne-none Stop.start (sym (halt-before-full back T r (suc c) m Stop.start (start-before-jam T c m z)) ∙ e)
+
+    taken-back : (m u : Moment) → nextBy back T m ≡ some u → (stepBack T (m .state) ≡ some (u .state)) × (u .position ≡ m .position - 1)
+    taken-back m u n = by-step (stepBack T (m .state)) refl
+      where
+        by-step : (o : Option State) → stepBack T (m .state) ≡ o → (stepBack T (m .state) ≡ some (u .state)) × (u .position ≡ m .position - 1)
+        by-step none e = absurd (Option·none-ne-some u (sym (rw e) ∙ n))
+        by-step (some s) e =
+            let same : moment s (m .position - 1) ≡ u = Option·some-injective _ u (sym (rw e) ∙ n) in
+            (e ∙ ap (λ x. some (x .state)) same, sym (ap (λ x. x .position) same))
+
+    pub backed : (c : ℕ) (m : Moment) → Good T (m .state) → Fits r (m .state) → Backed m (wind back T r c m)
+    backed =
+        each-run back T r (λ c m run. Good T (m .state) → Fits r (m .state) → Backed m run) (λ m. backed-nowhere m spent) (λ c m x e. backed-nowhere m x)
+        (λ c m u run e n more g f.
+        let (came, lower) = taken-back m u n in
+        let h : Backed u run = more (back-keeps-good T F (u .state) (m .state) g came) (fits-next back T r (suc c) m e u n) in
+        let past : m .position ≡ 0 → ⊥ = past-start c m e in
+        let at : run .last .position + run .steps ≡ u .position = h .position-is in
+        record {
+          trail = then (h .trail) (back-redone T F (u .state) (m .state) g came) f;
+          good = h .good;
+          fits = h .fits;
+          position-is = omega arith;
+        })
+
+    -- So forward by its steps comes back, and is spent.
+    pub record Again (m : Moment) (out home : Run) : Type 0 where
+      pub last-is : home .last ≡ m
+      pub steps-are : home .steps ≡ out .steps
+      pub spent-is : home .stop ≡ spent
+
+    pub again : (c : ℕ) (m : Moment) → Good T (m .state) → Fits r (m .state) → m .position ≤ greatest
+        → Again m (wind back T r c m) (wind forward T r (wind back T r c m .steps) (wind back T r c m .last))
+    again c m g f l =
+        let out : Run = wind back T r c m in
+        let h : Backed m out = backed c m g f in
+        let at : out .last .position + out .steps ≡ m .position = h .position-is in
+        let a = along (out .steps) (out .last .position) (h .trail) (omega arith) in
+        record { last-is = a .last-is ∙ ap (moment (m .state)) at; steps-are = a .steps-are; spent-is = a .spent-is }
