@@ -83,6 +83,10 @@ pub position-facing : (way : Way) (se : Session) → facingSession way se .posit
 position-facing forward se = refl
 position-facing back se = refl
 
+pub tape-length-facing : (way : Way) (se : Session) → facingSession way se .tapeLength ≡ se .tapeLength
+tape-length-facing forward se = refl
+tape-length-facing back se = refl
+
 -- A step from what is turned about leads, turned again, to the next moment.
 pub next-facing : (way : Way) (T : Table) (s u : State) (se : Session) → step T (facing way s) ≡ some u
     → nextBy way T (moment s (se .position)) ≡ some (moment (facing way u) (sessionAfter way se .position))

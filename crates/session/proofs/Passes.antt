@@ -1,25 +1,26 @@
 -- A pass of the winding loop: each way out of the code is one law.
 use mathlib.Core.Path.{_≡_, refl, sym, ap, _∙_, subst}
-use mathlib.Core.Bool.{true, false}
+use mathlib.Core.Bool.{true, false, false≢true}
 use mathlib.Core.Option.{none, some, Option·map}
 use mathlib.Core.List.{List}
 use Prim.Native.Nat.{ℕ, suc, _≤_, _<_}
 use native.Mathlib.Omega.{arith}
 use lib.ListN.{length}
+use borrow.Author.Tests.{eqb-true, eqb-false}
 use Rattle.term.specs.Table.{Table, tableIn}
 use Rattle.machine.specs.Machine.{State, turn, step}
 use Rattle.calls.specs.Session.{answer}
-use Rattle.calls.specs.Stops.{Way, forward, back, Moment, moment, room, greatest, logSize, tapeSize, nextBy, isAnswer}
+use Rattle.calls.specs.Stops.{Way, forward, back, Moment, moment, room, greatest, logSize, tapeSize, nextBy}
 use Rattle.term.proofs.Facts.{accepted-facts}
 use Rattle.calls.proofs.Held.{held-once}
 use Rattle.calls.proofs.Stops.{Fits, answer-before-jam, jam-before-far, far-before-full, no-halt-forward, start-before-jam, jam-before-full-back, no-halt-back, halt-before-full, log-full-next, tape-full-next, no-stop-next}
 use Rattle.session.specs.Types.{sessionMeant, stopMeant}
 use Rattle.session.specs.Steps.{TokenAt, arrivedAt, StepIs}
 use Rattle.session.specs.Rules.{RuleIs, Fitting}
-use Rattle.session.specs.Passes.{facing, sessionAfter, BeforeIs, PassIs}
+use Rattle.session.specs.Passes.{facing, sessionAfter, isEnd, endStop, isFar, BeforeIs, PassIs}
 use Rattle.session.specs.declared.Session as Declared
 use Rattle.session.specs.declared.Stop as DeclaredStop
-use Rattle.session.specs.declared.Stop.the-variants.{Answer, Jam, Far, Start, LogFull, TapeFull}
+use Rattle.session.specs.declared.Stop.the-variants.{Jam, Far, LogFull, TapeFull}
 use Rattle.session.specs.declared.choice.Rule.{Rule}
 use Rattle.session.specs.declared.choice.Rule.the-variants.{One, Two, Three, Four, Five, Six, Seven, Eight}
 use Rattle.session.specs.declared.rules.Arrival as Arrived
@@ -46,31 +47,28 @@ module _ {w : List ℕ} {n : ℕ} {se : Declared.Session} {ls ts : List ℕ} {s 
   abbrev here : Moment
   here = moment s (se .position)
 
-  -- before a step forward
-  pub ends-at-answer : isAnswer T s ≡ true → BeforeIs w n se forward s (Ends (Answer (se .node)))
-  ends-at-answer e = λ c. answer-before-jam T c here e ∙ ap (λ i. some (answer i)) (sym (h .enters .holds .node-is))
+  -- before a step, either way
+  pub ends : (way : Way) → isEnd way T here ≡ true → BeforeIs w n se way s (Ends (endStop way se))
+  ends forward e = λ c. answer-before-jam T c here e ∙ ap (λ i. some (answer i)) (sym (h .enters .holds .node-is))
+  ends back e = λ c. start-before-jam T c here (eqb-true (se .position) 0 e)
 
-  module _ (unanswered : isAnswer T s ≡ false) where
-    pub jams-forward : step T s ≡ none → BeforeIs w n se forward s (Ends Jam)
-    jams-forward e = λ c. jam-before-far T c here unanswered e
+  pub jams : (way : Way) → isEnd way T here ≡ false → step T (facing way s) ≡ none → BeforeIs w n se way s (Ends Jam)
+  jams forward unanswered e = λ c. jam-before-far T c here unanswered e
+  jams back past e = λ c. jam-before-full-back T c here (eqb-false (se .position) 0 past) (ap (Option·map turn) e)
 
-    module _ (r : Rule) (f : RuleIs T s r) where
-      pub ends-far : se .position ≡ greatest → BeforeIs w n se forward s (Ends Far)
-      ends-far e = let (u, steps) = rule-steps T s r f in λ c. far-before-full T c here unanswered u steps e
+  pub ends-far : (way : Way) → isEnd way T here ≡ false → (r : Rule) → RuleIs T (facing way s) r → isFar way (se .position) ≡ true → BeforeIs w n se way s (Ends Far)
+  ends-far forward on r f e = let (u, steps) = rule-steps T s r f in λ c. far-before-full T c here on u steps (eqb-true (se .position) greatest e)
+  ends-far back on r f e = absurd (false≢true e)
 
-      pub makes-forward : (se .position ≡ greatest → ⊥) → se .position < greatest → BeforeIs w n se forward s (Makes r)
-      makes-forward near less = let (u, steps) = rule-steps T s r f in (λ c. no-halt-forward T c here unanswered u steps near, less, f)
-
-  -- before a step back
-  pub ends-at-start : se .position ≡ 0 → BeforeIs w n se back s (Ends Start)
-  ends-at-start e = λ c. start-before-jam T c here e
-
-  module _ (past : se .position ≡ 0 → ⊥) where
-    pub jams-back : step T (turn s) ≡ none → BeforeIs w n se back s (Ends Jam)
-    jams-back e = λ c. jam-before-full-back T c here past (ap (Option·map turn) e)
-
-    pub makes-back : (r : Rule) → RuleIs T (turn s) r → 1 ≤ se .position → BeforeIs w n se back s (Makes r)
-    makes-back r f more = let (u, steps) = rule-steps T (turn s) r f in (λ c. no-halt-back T c here past (turn u) (ap (Option·map turn) steps), more, f)
+  pub makes : (way : Way) → isEnd way T here ≡ false → (r : Rule) → RuleIs T (facing way s) r → isFar way (se .position) ≡ false → se .position ≤ greatest → BeforeIs w n se way s (Makes r)
+  makes forward on r f e word =
+      let (u, steps) = rule-steps T s r f in
+      let near = eqb-false (se .position) greatest e in
+      (λ c. no-halt-forward T c here on u steps near, omega (arith, near), f)
+  makes back on r f e word =
+      let (u, steps) = rule-steps T (turn s) r f in
+      let past = eqb-false (se .position) 0 on in
+      (λ c. no-halt-back T c here past (turn u) (ap (Option·map turn) steps), omega (arith, past), f)
 
   -- the pass
   module _ (way : Way) where

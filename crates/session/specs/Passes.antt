@@ -1,13 +1,15 @@
 -- What the functions of a winding loop promise: what ends a walk before a step, one pass of the loop, and the running outcome.
 use mathlib.Core.Path.{_≡_}
+use mathlib.Core.Bool.{Bool, false}
 use mathlib.Core.Option.{none, some}
 use mathlib.Core.List.{List}
 use Prim.Native.Nat.{ℕ, suc, _+_, _-_, _≤_, _<_, max}
 use lib.ListN.{length}
-use Rattle.term.specs.Table.{tableIn}
+use lib.Dec.{eqb}
+use Rattle.term.specs.Table.{Table, tableIn}
 use Rattle.machine.specs.Machine.{State, turned, turn}
 use Rattle.calls.specs.Session
-use Rattle.calls.specs.Stops.{Way, forward, back, moment, room, greatest, nextBy, haltBefore, stopBefore}
+use Rattle.calls.specs.Stops.{Way, forward, back, Moment, moment, room, greatest, isAnswer, nextBy, haltBefore, stopBefore}
 use Rattle.calls.specs.Winding.{wind}
 use Rattle.calls.specs.Calls.{wound, refusedOutcome}
 use Rattle.session.specs.Types.{wayMeant, stopMeant, outcomeMeant, lent}
@@ -16,7 +18,7 @@ use Rattle.session.specs.Rules.{RuleIs}
 use Rattle.session.specs.Weight.{weightOf}
 use Rattle.session.specs.declared.Session as Declared
 use Rattle.session.specs.declared.Outcome as Came
-use Rattle.session.specs.declared.Stop.the-variants.{Spent}
+use Rattle.session.specs.declared.Stop.the-variants.{Spent, Answer, Start}
 use Rattle.session.specs.declared.Stop as DeclaredStop
 use Rattle.session.specs.declared.winding.Way as DeclaredWay
 use Rattle.session.specs.declared.winding.Before.{Before}
@@ -64,6 +66,24 @@ sessionAfter back s = record {
   logLength = s .logLength;
   tapeLength = s .tapeLength;
 }
+
+-- Whether a walk has come to its end: forward to the answer, back to the start.
+abbrev pub isEnd : Way → Table → Moment → Bool
+isEnd forward T m = isAnswer T (m .state)
+isEnd back T m = eqb (m .position) 0
+
+abbrev pub TellsEnd : List ℕ → ℕ → Declared.Session → Way → Bool → Type 0
+TellsEnd w n se way b = (ls ts : List ℕ) (s : State) → TokenAt w n se ls ts s → b ≡ isEnd way (tableIn w n) (moment s (se .position))
+
+-- the stop there
+abbrev pub endStop : Way → Declared.Session → DeclaredStop.Stop
+endStop forward se = Answer (se .node)
+endStop back se = Start
+
+-- Whether there is no position after the next step.
+abbrev pub isFar : Way → ℕ → Bool
+isFar forward p = eqb p greatest
+isFar back p = false
 
 -- Before a step, the count not used up: the stop, if it is not a full slice; or the rule that fits what the step is made from.
 abbrev pub BeforeIs : List ℕ → ℕ → Declared.Session → Way → State → Before → Type 0

@@ -6,7 +6,7 @@ ghost use Rattle.machine.specs.Machine.{turned as otherDir};
 ghost use Rattle.calls.specs.Visits.{spot};
 ghost use Rattle.session.specs.Types.{dirMeant, sessionMeant, wayMeant};
 ghost use Rattle.session.specs.Steps.{Ready, arrivedAt};
-ghost use Rattle.session.specs.Passes.{turnedSession, facingSession, HasNext, sessionAfter, TellsBefore, Passes, begunAt, lengthenedTo, endedBy, Winds};
+ghost use Rattle.session.specs.Passes.{turnedSession, facingSession, HasNext, sessionAfter, TellsEnd, endStop, isFar, TellsBefore, Passes, begunAt, lengthenedTo, endedBy, Winds};
 ghost use Rattle.session.specs.Visits.{Seeks};
 ghost use Rattle.session.specs.Weight.{Weighable};
 use crate::Dir;
@@ -105,37 +105,55 @@ fn after_step(session: Session, to: Arrival, way: Way) -> Session
     }
 }
 
-// What ends a walk before a step, the count not used up, but for a full slice, which the mover finds. The tests are in the order of document 01.
+// Whether a walk has come to its end: forward to the answer, back to the start.
+fn is_end(table: &[u32], n: u32, session: Session, way: Way) -> bool
+    ensures { λ r. ⌜ TellsEnd (now (table .entry)) n session (wayMeant way) r ⌝ }
+{
+    match way {
+        Way::Forward => is_answer(table, n, session),
+        Way::Back => session.position == 0,
+    }
+}
+
+// The stop there.
+fn end_stop(session: Session, way: Way) -> Stop
+    ensures { λ r. ⌜ r ≡ endStop (wayMeant way) session ⌝ }
+{
+    match way {
+        Way::Forward => Stop::Answer(session.node),
+        Way::Back => Stop::Start,
+    }
+}
+
+// Whether there is no position after the next step: forward from the greatest.
+fn is_far(session: Session, way: Way) -> bool
+    ensures { λ r. ⌜ r ≡ isFar (wayMeant way) (session .position) ⌝ }
+{
+    match way {
+        Way::Forward => session.position == 0xffff_ffff,
+        Way::Back => false,
+    }
+}
+
+// What ends a walk before a step, the count not used up, but for a full slice, which the mover finds. The tests are in the order of document 01. The rule is chosen in one place
+// for both ways, so that the compiler puts the choice into the loop.
 fn before_step(table: &[u32], n: u32, session: Session, tape: &[u32], way: Way) -> Before
     requires { ⌜ session .«tape_len» ≤ length (now tape) ⌝ }
     ensures { λ r. ⌜ TellsBefore (now (table .entry)) n session (now (tape .entry)) (wayMeant way) r ⌝ }
 {
-    match way {
-        Way::Forward => {
-            if is_answer(table, n, session) {
-                return Before::Ends(Stop::Answer(session.node));
-            }
-            let fit = chosen(table, n, session, tape);
-            match fit {
-                Fit::Unfit => Before::Ends(Stop::Jam),
-                Fit::By(rule) => {
-                    if session.position == 0xffff_ffff {
-                        Before::Ends(Stop::Far)
-                    } else {
-                        Before::Makes(rule)
-                    }
-                }
-            }
-        }
-        Way::Back => {
-            if session.position == 0 {
-                return Before::Ends(Stop::Start);
-            }
-            let about = turned_session(session);
-            let fit = chosen(table, n, about, tape);
-            match fit {
-                Fit::Unfit => Before::Ends(Stop::Jam),
-                Fit::By(rule) => Before::Makes(rule),
+    if is_end(table, n, session, way) {
+        let stop = end_stop(session, way);
+        return Before::Ends(stop);
+    }
+    let about = facing_session(session, way);
+    let fit = chosen(table, n, about, tape);
+    match fit {
+        Fit::Unfit => Before::Ends(Stop::Jam),
+        Fit::By(rule) => {
+            if is_far(session, way) {
+                Before::Ends(Stop::Far)
+            } else {
+                Before::Makes(rule)
             }
         }
     }

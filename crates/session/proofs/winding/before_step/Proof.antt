@@ -1,98 +1,95 @@
 -- `before_step`: each answer by the law of its case.
-use mathlib.Core.Path.{sym, ap, _∙_}
+use mathlib.Core.Path.{_≡_, sym, ap, _∙_}
+use mathlib.Core.Bool.{false}
+use mathlib.Core.List.{List}
+use Prim.Native.Nat.{ℕ}
 use native.Mathlib.Omega.{arith}
-use Rattle.machine.specs.Machine.{turn}
-use Rattle.calls.specs.Stops.{back}
-use Rattle.session.proofs.Facing.{token-facing}
-use Rattle.session.proofs.Passes.{ends-at-answer, jams-forward, ends-far, makes-forward, ends-at-start, jams-back, makes-back}
+use Rattle.term.specs.Table.{tableIn}
+use Rattle.machine.specs.Machine.{State}
+use Rattle.calls.specs.Stops.{moment}
+use Rattle.session.specs.Types.{wayMeant, sessionMeant}
+use Rattle.session.specs.Steps.{TokenAt}
+use Rattle.session.specs.Passes.{facing, isEnd}
+use Rattle.session.proofs.Facing.{token-facing, tape-length-facing}
+use Rattle.session.proofs.Passes.{ends, jams, ends-far, makes}
 use borrow.Author.Needs.{needs}
 use Rattle.session.proofs.winding.before_step.Statement.{statement}
 use Rattle.session.proofs.winding.before_step.Tie as tie
 
-enum-told : tie.Need-enum-told
-enum-told c = search needs
+is-end-requires : tie.Need-is-end-requires
+is-end-requires c κs = search needs
 
-is-answer-requires : tie.Need-is-answer-requires
-is-answer-requires c κs = search needs
+end-stop-requires : tie.Need-end-stop-requires
+end-stop-requires c κs = search needs
 
 returns : tie.Need-returns
 returns c =
-    rw (c .before .before .enum-told .given .1)
-    (λ ls s h. ends-at-answer h (sym (c .before .is-answer .ensures ls (c .before .before .before .before .before .before .args .tape .now) s h) ∙ c .if1 .taken))
+    let a = c .before .before .before .before .before .args in
+    rw (c .end-stop .ensures)
+    (λ ls s h. ends h (wayMeant (a .way)) (sym (c .before .before .is-end .ensures ls (a .tape .now) s h) ∙ c .before .if1 .taken))
+
+facing-session-requires : tie.Need-facing-session-requires
+facing-session-requires c κs = search needs
 
 chosen-requires : tie.Need-chosen-requires
-chosen-requires c κs = search needs
+chosen-requires c κs =
+    let p = c .before .before .before .before .before in
+    let less = p .pre in
+    omega (arith, ap (λ x. x .tapeLength) (c .facing-session .ensures) ∙ tape-length-facing (wayMeant (p .args .way)) (sessionMeant (p .args .session)))
 
-enum-told-2 : tie.Need-enum-told-2
-enum-told-2 c = search needs
+enum-told : tie.Need-enum-told
+enum-told c = search needs
 
 enum-known-fit : tie.Need-enum-known-fit
 enum-known-fit c = search needs
 
-enum-told-3 : tie.Need-enum-told-3
-enum-told-3 c = search needs
+is-far-requires : tie.Need-is-far-requires
+is-far-requires c κs = search needs
+
+-- The walk has not come to its end.
+on : (c : tie.After-chosen) (ls : List ℕ) (s : State) → (let a = c .before .before .before .before .before .before .args in
+    TokenAt (a .table .now) (a .n) (a .session) ls (a .tape .now) s → isEnd (wayMeant (a .way)) (tableIn (a .table .now) (a .n)) (moment s (a .session .position)) ≡ false)
+on c ls s h =
+    let a = c .before .before .before .before .before .before .args in
+    sym (c .before .before .before .is-end .ensures ls (a .tape .now) s h) ∙ c .before .before .if1 .left
+
+-- The state that the rule is chosen for.
+faced : (c : tie.After-chosen) (ls : List ℕ) (s : State) → (let a = c .before .before .before .before .before .before .args in
+    TokenAt (a .table .now) (a .n) (a .session) ls (a .tape .now) s → TokenAt (a .table .now) (a .n) (c .before .facing-session .result) ls (a .tape .now) (facing (wayMeant (a .way)) s))
+faced c ls s h = token-facing h (wayMeant (c .before .before .before .before .before .before .args .way)) (c .before .facing-session .ensures)
 
 returns-2 : tie.Need-returns-2
-returns-2 c = rw (c .before .before .enum-told3 .given .1) (λ ls s h. ends-at-start h (c .if3 .taken))
-
-turned-session-requires : tie.Need-turned-session-requires
-turned-session-requires c κs = search needs
-
-chosen-requires-2 : tie.Need-chosen-requires-2
-chosen-requires-2 c κs = let less = c .before .before .before .before .before .before .before .pre in omega (arith, ap (λ x. x .tapeLength) (c .turned-session .ensures))
-
-enum-told-4 : tie.Need-enum-told-4
-enum-told-4 c = search needs
-
-enum-known-fit-2 : tie.Need-enum-known-fit-2
-enum-known-fit-2 c = search needs
+returns-2 c ls s h =
+    let k = c .before .before in
+    let way = wayMeant (k .before .before .before .before .before .before .args .way) in
+    jams h way (on k ls s h) (rw (c .enum-told .given .1) at (k .chosen .ensures ls (facing way s) (faced k ls s h)))
 
 returns-3 : tie.Need-returns-3
-returns-3 c =
-    rw (c .before .before .before .before .before .enum-told .given .1)
-    (λ ls s h. jams-forward h (sym (c .before .before .before .before .is-answer .ensures ls (c .before .before .before .before .before .before .before .before .before .args .tape .now) s h) ∙ c .before .before .before .if1 .left) (rw (c .enum-told2 .given .1) at (c .before .before .chosen .ensures ls s h)))
+returns-3 c ls s h =
+    let k = c .before .before .before .before .before in
+    let way = wayMeant (k .before .before .before .before .before .before .args .way) in
+    ends-far h way (on k ls s h) (c .before .before .before .fit .given .0 .0)
+    (rw (c .before .before .before .fit .given .1) at (k .chosen .ensures ls (facing way s) (faced k ls s h))) (sym (c .before .is-far .ensures) ∙ c .if2 .taken)
 
 returns-4 : tie.Need-returns-4
-returns-4 c =
-    rw (c .before .before .before .before .before .before .before .before .enum-told .given .1)
-    (λ ls s h. ends-far h (sym (c .before .before .before .before .before .before .before .is-answer .ensures ls (c .before .before .before .before .before .before .before .before .before .before .before .before .args .tape .now) s h) ∙ c .before .before .before .before .before .before .if1 .left) (c .before .before .before .fit .given .0 .0)
-    (rw (c .before .before .before .fit .given .1) at (c .before .before .before .before .before .chosen .ensures ls s h)) (c .if2 .taken))
-
-returns-5 : tie.Need-returns-5
-returns-5 c =
-    rw (c .before .before .before .before .before .before .before .before .enum-told .given .1)
-    (λ ls s h. makes-forward h (sym (c .before .before .before .before .before .before .before .is-answer .ensures ls (c .before .before .before .before .before .before .before .before .before .before .before .before .args .tape .now) s h) ∙ c .before .before .before .before .before .before .if1 .left) (c .before .before .before .fit .given .0 .0)
-    (rw (c .before .before .before .fit .given .1) at (c .before .before .before .before .before .chosen .ensures ls s h)) (c .if2 .left) (omega arith))
-
-returns-6 : tie.Need-returns-6
-returns-6 c =
-    rw (c .before .before .before .before .before .before .enum-told3 .given .1)
-    (λ ls s h. jams-back h (c .before .before .before .before .if3 .left) (rw (c .enum-told4 .given .1) at (c .before .before .chosen2 .ensures ls (turn s) (token-facing h back (c .before .before .before .turned-session .ensures)))))
-
-returns-7 : tie.Need-returns-7
-returns-7 c =
-    rw (c .before .before .before .before .before .before .before .enum-told3 .given .1)
-    (λ ls s h. makes-back h (c .before .before .before .before .before .if3 .left) (c .before .fit2 .given .0 .0)
-    (rw (c .before .fit2 .given .1) at (c .before .before .before .chosen2 .ensures ls (turn s) (token-facing h back (c .before .before .before .before .turned-session .ensures)))) (omega arith))
+returns-4 c ls s h =
+    let k = c .before .before .before .before .before in
+    let way = wayMeant (k .before .before .before .before .before .before .args .way) in
+    makes h way (on k ls s h) (c .before .before .before .fit .given .0 .0)
+    (rw (c .before .before .before .fit .given .1) at (k .chosen .ensures ls (facing way s) (faced k ls s h))) (sym (c .before .is-far .ensures) ∙ c .if2 .left) (omega (arith, k .before .before .before .before .before .before .good))
 
 pub before-step-spec : {M : Type 1} → statement M
 before-step-spec =
     tie.close
     (tie.spec
-    enum-told
-    is-answer-requires
+    is-end-requires
+    end-stop-requires
     returns
+    facing-session-requires
     chosen-requires
-    enum-told-2
+    enum-told
     enum-known-fit
-    enum-told-3
+    is-far-requires
     returns-2
-    turned-session-requires
-    chosen-requires-2
-    enum-told-4
-    enum-known-fit-2
     returns-3
-    returns-4
-    returns-5
-    returns-6
-    returns-7)
+    returns-4)
