@@ -12,6 +12,7 @@ pub mod Runs
 pub mod Retrace
 pub mod Nowhere
 pub mod Answers
+pub mod Outcomes
 pub mod Top
 pub mod Weight
 pub mod Third

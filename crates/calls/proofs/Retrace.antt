@@ -1,7 +1,7 @@
 -- Back, and forward again by the steps made: each step taken back is made again, and the walk ends as spent where it began.
 use mathlib.Core.Path.{_≡_, refl, sym, ap, _∙_}
 use mathlib.Core.Bool.{Bool, true, false, false≢true}
-use mathlib.Core.Option.{Option, none, some, Option·some-injective, Option·none-ne-some, Option·some-ne-none}
+use mathlib.Core.Option.{none, some, Option·some-ne-none}
 use mathlib.Core.List.{[], _∷_}
 use Prim.Native.Nat.{ℕ, zero, suc, _+_, _-_, _≤_}
 use native.Mathlib.Nat.{add-zero}
@@ -13,10 +13,10 @@ use Rattle.machine.specs.Machine.{Dir, down, up, State, goDown, stepBy, step, s
 use Rattle.machine.specs.Good.{Good}
 use Rattle.machine.proofs.Reverse.{back-redone, back-keeps-good}
 use Rattle.calls.specs.Session.{Stop, spent}
-use Rattle.calls.specs.Stops.{forward, back, Moment, moment, Room, greatest, nextBy, isAnswerBy, isAnswer, stopBefore}
+use Rattle.calls.specs.Stops.{forward, back, Moment, moment, Room, greatest, isAnswerBy, isAnswer, stopBefore}
 use Rattle.calls.specs.Winding.{Run, ended, wind}
 use Rattle.calls.proofs.Stops.{Fits, no-halt-forward, start-before-jam, halt-before-full, no-stop-next, fits-next}
-use Rattle.calls.proofs.Winds.{each-run}
+use Rattle.calls.proofs.Winds.{next-is, each-run}
 use Rattle.calls.proofs.Runs.{Trail, begun, then, trail-none}
 use Rattle.calls.proofs.Visits.{wind-none, wind-goes-on}
 
@@ -88,20 +88,11 @@ module _ (T : Table) (r : Room) where
     past-start : (c : ℕ) (m : Moment) → stopBefore back T r (suc c) m ≡ none → m .position ≡ 0 → ⊥
     past-start c m e z = Option·some-ne-none Stop.start (sym (halt-before-full back T r (suc c) m Stop.start (start-before-jam T c m z)) ∙ e)
 
-    taken-back : (m u : Moment) → nextBy back T m ≡ some u → (stepBack T (m .state) ≡ some (u .state)) × (u .position ≡ m .position - 1)
-    taken-back m u n = by-step (stepBack T (m .state)) refl
-      where
-        by-step : (o : Option State) → stepBack T (m .state) ≡ o → (stepBack T (m .state) ≡ some (u .state)) × (u .position ≡ m .position - 1)
-        by-step none e = absurd (Option·none-ne-some u (sym (rw e) ∙ n))
-        by-step (some s) e =
-            let same : moment s (m .position - 1) ≡ u = Option·some-injective _ u (sym (rw e) ∙ n) in
-            (e ∙ ap (λ x. some (x .state)) same, sym (ap (λ x. x .position) same))
-
     pub backed : (c : ℕ) (m : Moment) → Good T (m .state) → Fits r (m .state) → Backed m (wind back T r c m)
     backed =
         each-run back T r (λ c m run. Good T (m .state) → Fits r (m .state) → Backed m run) (λ m. backed-nowhere m spent) (λ c m x e. backed-nowhere m x)
         (λ c m u run e n more g f.
-        let (came, lower) = taken-back m u n in
+        let (came, lower) = next-is (stepBack T (m .state)) (m .position - 1) u n in
         let h : Backed u run = more (back-keeps-good T F (u .state) (m .state) g came) (fits-next back T r (suc c) m e u n) in
         let past : m .position ≡ 0 → ⊥ = past-start c m e in
         let at : run .last .position + run .steps ≡ u .position = h .position-is in

@@ -1,7 +1,6 @@
 -- What a state weighs: its bullets and its logged positions are the words of both lists, a caller can weigh it on session and slices, and no weight and no peak is over `heaviest`.
 use mathlib.Core.Path.{_≡_, refl, sym, ap, ap₂, _∙_}
 use mathlib.Core.Bool.{false}
-use mathlib.Core.Option.{Option, none, some}
 use mathlib.Core.List.{List, [], _∷_, _++_, reverse, reverse-append}
 use Prim.Native.Nat.{ℕ, zero, suc, _+_, _-_, _*_, _≤_, zero-le}
 use native.Mathlib.Nat.{le-trans, zero-add, suc-add, add-comm, mul-le-mul-right}
@@ -22,16 +21,16 @@ use Rattle.calls.specs.Stops.{Way, forward, back, Moment, moment, Room, 
 use Rattle.calls.specs.Digits.{digits, HasDigits}
 use Rattle.calls.specs.Weight.{bullets, entryPositions, logPositions, tapePositions, loggedPositions, weight, zeroWords, bulletsGiven, weightGiven, heaviest}
 use Rattle.calls.specs.Winding.{Run, wind}
-use Rattle.calls.specs.Calls.{longest, callNumber, Enters, refusedOutcome, wound, windOf, goToOf}
-use Rattle.calls.specs.Visits.{Spot, offTerm, visitNumber, backToOf, forwardToOf, foundBy, Sought}
-use Rattle.calls.specs.Demand.{Move, by, go-to, back-to, forward-to, outcomeOf}
+use Rattle.calls.specs.Calls.{longest, Enters, wound, windOf, goToOf}
+use Rattle.calls.specs.Visits.{Spot, offTerm, backToOf, forwardToOf, foundBy}
+use Rattle.calls.specs.Demand.{Move, outcomeOf}
 use Rattle.calls.proofs.Stops.{Fits, fits-next}
 use Rattle.calls.proofs.Winds.{each-run}
 use Rattle.calls.proofs.Digits.{digits-are, digits-at-most, digits-once}
 use Rattle.calls.proofs.Peaks.{Walked, walked-nowhere, walked}
-use Rattle.calls.proofs.Unrefused.{visit-none}
+use Rattle.calls.proofs.Outcomes.{each-outcome}
 use Rattle.calls.proofs.Visits.{wind-none, sought, each-sought, sought-back}
-use Rattle.calls.proofs.Answers.{either-way, wind-refused, back-to-refused, forward-to-refused, entered, winds, seeks-back, seeks-forward, held-fits}
+use Rattle.calls.proofs.Answers.{either-way, winds, seeks-back, seeks-forward, held-fits}
 
 -- ---- the words of both lists
 
@@ -156,39 +155,11 @@ from-here way g s h c =
 own-light : (g : Given) (s : State) → Enters g s → weight (tableIn (g .table) (g .n)) s ≤ heaviest
 own-light g s h = rw (wind-none forward (tableIn (g .table) (g .n)) (room (g .log) (g .tape)) (moment s (g .session .position))) at (from-here forward g s h 0)
 
-wind-light : (g : Given) (way : Way) (c : ℕ) → windOf way g c .peak ≤ heaviest
-wind-light g way c = by-number (callNumber g) refl
-  where
-    by-number : (o : Option ℕ) → callNumber g ≡ o → windOf way g c .peak ≤ heaviest
-    by-number (some k) e = rw (wind-refused g k way e c) zero-le
-    by-number none e =
-        let (s, h) = entered g e in
-        rw (winds g s h way c) (from-here way g s h c)
-
--- The same of a search, which ends as found after some of a walk's steps.
-sought-light : (way : Way) (g : Given) (s : State) → Enters g s → (v : Spot) (c : ℕ) {otherwise run : Run} → otherwise .peak ≤ heaviest
-    → Sought way (tableIn (g .table) (g .n)) (room (g .log) (g .tape)) v c (moment s (g .session .position)) otherwise run → run .peak ≤ heaviest
-sought-light way g s h v c l = each-sought (λ x. x .peak ≤ heaviest) (λ k f. from-here way g s h k) l
-
-visit-light : (g : Given) (v : Spot) (o : Outcome) → ((k : ℕ) → visitNumber (v .node) g ≡ some k → o ≡ refusedOutcome k g)
-    → ((s : State) → Enters g s → offTerm (g .n) (v .node) ≡ false → o .peak ≤ heaviest) → o .peak ≤ heaviest
-visit-light g v o refuses seeks = by-number (visitNumber (v .node) g) refl
-  where
-    by-number : (q : Option ℕ) → visitNumber (v .node) g ≡ q → o .peak ≤ heaviest
-    by-number (some k) e = rw (refuses k e) zero-le
-    by-number none e = let (c, on) = visit-none (v .node) g e in let (s, h) = entered g c in seeks s h on
-
 -- Every peak fits its word, whatever the call is given.
 pub peak-light : (m : Move) (g : Given) → outcomeOf m g .peak ≤ heaviest
-unfolding goToOf
-peak-light (by way c) g = wind-light g way c
-peak-light (back-to v) g =
-    visit-light g v (backToOf g v) (λ k e. back-to-refused g k v e)
-    (λ s h on. rw (seeks-back g s h v on) (sought-light back g s h v (g .session .position) (own-light g s h) (sought-back _ _ v _)))
-peak-light (forward-to v c) g =
-    visit-light g v (forwardToOf g v c) (λ k e. forward-to-refused g k v c e)
-    (λ s h on. rw (seeks-forward g s h v on c) (sought-light forward g s h v c (from-here forward g s h c) (sought forward _ _ v c _)))
-peak-light (go-to q) g = either-way (λ o. o .peak ≤ heaviest) (leb (g .session .position) q) _ _ (λ i. wind-light g forward _) (λ i. wind-light g back _)
+peak-light m g =
+    each-outcome g (λ o. o .peak ≤ heaviest) (λ k. zero-le)
+    (λ s h. record { walk = λ way c. from-here way g s h c; found = λ way c. from-here way g s h c; none = own-light g s h }) m
 
 -- The outcome is that of a run this way from the state given, and its peak the greatest weight over the states stood in, first and last included.
 abbrev pub PeakOver : Given → State → Way → Outcome → Type 0

@@ -1,14 +1,20 @@
 -- A run from its end: stopped, or one step before a run that has the property. What holds of every run is shown by it.
-use mathlib.Core.Path.{_≡_, refl, sym, _∙_}
-use mathlib.Core.Option.{Option, none, some, Option·some-ne-none}
+use mathlib.Core.Path.{_≡_, refl, sym, ap, _∙_}
+use mathlib.Core.Option.{Option, none, some, Option·some-injective, Option·none-ne-some, Option·some-ne-none}
 use Prim.Native.Nat.{ℕ, zero, suc, _-_}
 use native.Mathlib.Omega.{arith}
+use Rattle.term.specs.Choice.{_>>=_}
 use Rattle.term.specs.Table.{Table}
 use Rattle.machine.specs.Machine.{State, stepBack}
 use Rattle.calls.specs.Session.{Stop, spent, jam, start}
 use Rattle.calls.specs.Stops.{Way, forward, back, Moment, moment, Room, nextBy, haltBefore, stopBefore}
 use Rattle.calls.specs.Winding.{Run, ended, longer, wind}
 use Rattle.calls.proofs.Stops.{start-before-jam, jam-before-full-back, halt-before-full, IsStop, stop-is-stop, goes}
+
+-- a next moment, by the step to it
+pub next-is : (o : Option State) (p : ℕ) (u : Moment) → (o >>= λ s. some (moment s p)) ≡ some u → (o ≡ some (u .state)) × (u .position ≡ p)
+next-is none p u e = absurd (Option·none-ne-some u e)
+next-is (some s) p u e = let same : moment s p ≡ u = Option·some-injective _ u e in (ap (λ x. some (x .state)) same, sym (ap (λ x. x .position) same))
 
 -- where no stop comes there is a step
 pub has-next : (way : Way) (T : Table) (r : Room) (c : ℕ) (m : Moment) → stopBefore way T r (suc c) m ≡ none → (u : Moment) × (nextBy way T m ≡ some u)

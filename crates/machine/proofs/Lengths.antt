@@ -1,15 +1,15 @@
 -- No step lengthens both lists, and no step back does: what one gains in words, the other has given.
-use mathlib.Core.Path.{_≡_, sym, ap, _∙_, subst}
+use mathlib.Core.Path.{_≡_, subst}
 use mathlib.Core.Option.{Option, none, some, Option·map}
 use mathlib.Core.List.{[], _∷_}
-use Prim.Native.Nat.{ℕ, _+_, _≤_}
+use Prim.Native.Nat.{ℕ, _≤_}
 use native.Mathlib.Omega.{arith}
 use lib.ListN.{length, length-append}
 use lib.Dec.{leb}
 use Rattle.term.specs.Table.{Table, arity, Kind, variable, abstraction, application, nothing, kindAt, Place, bodyOf, functionOf, argumentOf, nowhere, placeAt}
-use Rattle.machine.specs.Entries.{entry, Log, ε, _▸_, howMany, topmost, rest, bullet, held, Tape, entryWords, logWords, tapeWords}
+use Rattle.machine.specs.Entries.{entry, Log, ε, _▸_, howMany, rest, bullet, held, Tape, entryWords, logWords, tapeWords}
 use Rattle.machine.specs.Machine.{Dir, down, up, State, state, boundAt, goDown, goUp, stepBy, step, turned, turn, stepBack}
-use Rattle.machine.proofs.Logs.{topmost-rest, words-onto}
+use Rattle.machine.proofs.Logs.{words-split}
 use Rattle.machine.proofs.Led.{Led, led-test}
 
 -- of the lists of s, at most one is longer in u
@@ -18,10 +18,7 @@ pub data NotBoth (s u : State) : Type 0 where
   tape-no-longer : length (tapeWords (u .tape)) ≤ length (tapeWords (s .tape)) → NotBoth s u
 
 pub rest-no-longer : (a : ℕ) (L : Log) → length (logWords (rest a L)) ≤ length (logWords L)
-rest-no-longer a L =
-    let whole : length (logWords L) ≡ length (logWords (topmost a L)) + length (logWords (rest a L))
-    = ap (λ M. length (logWords M)) (sym (topmost-rest a L)) ∙ ap length (words-onto (topmost a L) (rest a L)) ∙ length-append (logWords (topmost a L)) (logWords (rest a L)) in
-    omega arith
+rest-no-longer a L = omega (arith, words-split a L)
 
 by-kind : (T : Table) (i : ℕ) (L : Log) (t : Tape) (k : Kind) → Led (NotBoth (state i down L t)) (goDown T i k L t)
 unfolding goDown

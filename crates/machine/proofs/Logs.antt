@@ -1,8 +1,9 @@
--- Laws of a log's top, rest and onto: what they make together, how many entries they hold, and that these are the table's.
+-- Laws of a log's top, rest and onto: what they make together, how many entries and words they hold, and that these are the table's.
 use mathlib.Core.Path.{_≡_, refl, sym, ap, _∙_}
 use mathlib.Core.List.{_++_, append-assoc}
 use Prim.Native.Nat.{ℕ, zero, suc, _+_, _-_, _≤_}
 use native.Mathlib.Nat.{zero-add, suc-add, sub-zero, zero-sub, suc-sub-suc, le-of-suc-le-suc, not-suc-le-zero}
+use lib.ListN.{length, length-append}
 use Rattle.term.specs.Table.{Table}
 use Rattle.machine.specs.Entries.{Log, ε, _▸_, howMany, topmost, rest, _onto_, entryWords, logWords}
 use Rattle.machine.specs.Good.{LogIn}
@@ -58,3 +59,7 @@ onto-in T (e ▸ M) L g h = (g .0, onto-in T M L (g .1) h)
 pub words-onto : (M L : Log) → logWords (M onto L) ≡ logWords M ++ logWords L
 words-onto ε L = refl
 words-onto (e ▸ M) L = ap (λ ws. entryWords e ++ ws) (words-onto M L) ∙ sym (append-assoc (entryWords e) (logWords M) (logWords L))
+
+-- The words of a log are those of its top a entries and of the rest.
+pub words-split : (a : ℕ) (L : Log) → length (logWords L) ≡ length (logWords (topmost a L)) + length (logWords (rest a L))
+words-split a L = ap (λ M. length (logWords M)) (sym (topmost-rest a L)) ∙ ap length (words-onto (topmost a L) (rest a L)) ∙ length-append (logWords (topmost a L)) (logWords (rest a L))
