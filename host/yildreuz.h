@@ -31,8 +31,8 @@
 
    What holds after every list of calls. Open a session on a table that was read, and hand each call of forward, back,
    go_to, back_to and forward_to the session, log and tape that the one before left: then these are, word for word, those
-   of the machine after as many steps as the position says, however the calls were mixed. This is proved, as is every
-   answer of every call.
+   of the machine after as many steps as the position says, however the calls were mixed, and each call carried what the
+   machine's steps between its two positions carry. This is proved, as is every answer of every call.
 
    How long a call takes. Each call ends; it first looks over the whole table and both slices, and then makes its steps,
    which may be billions where the count, or the way to the position, is that long. A viewer that must stay awake winds
@@ -118,6 +118,12 @@ typedef struct yildreuz_outcome {
                                  digits; at most 393,216, and 0 in a refusal. With YILDREUZ_NONE it is the weight of
                                  the state given alone. A session weighs so on its own slices: each word 0 among the
                                  tape's counts 1, each other word of the two lists the digits */
+    uint64_t carried;         /* how many words the steps moved between log and tape: of an entry that goes over from one
+                                 list to the other all its words; of one that is made at its variable, or taken apart at
+                                 its binder, those of the entries inside it and not the variable's own; of a bullet none.
+                                 At most 16,384 for each step made, and 0 in a refusal and with YILDREUZ_NONE. A step
+                                 back carries what the step that it undoes carried: forward, and then back by the steps
+                                 made, carry the same */
 } yildreuz_outcome;
 
 /* What top answers: where the part lies in the slice that the caller lent for the chosen list. */

@@ -10,7 +10,7 @@ and used so:
     table, log, tape = yildreuz.words(100), yildreuz.words(64), yildreuz.words(64)
     n, refusal = lib.read(rb'(\\x.x x)(\\y.y)', table)
     session, refusal = lib.open(table, n, log, tape)
-    out = lib.forward(table, n, session, log, tape, 100)    # out.steps 12, out.stop ANSWER, out.value 6, out.peak 6 (in bits)
+    out = lib.forward(table, n, session, log, tape, 100)    # out.steps 12, out.stop ANSWER, out.value 6, out.peak 6 (in bits), out.carried 6
     part, refusal = lib.top(table, n, out.session, log, tape, yildreuz.LOG)
     newest = memoryview(log)[part.offset:part.offset + part.len]    # the newest log entry, no word of it copied: 7, 5
     home = lib.back(table, n, out.session, log, tape, out.steps)
@@ -67,6 +67,7 @@ class Outcome(NamedTuple):
     value: int
     value2: int
     peak: int
+    carried: int
 
 
 class Part(NamedTuple):
@@ -95,7 +96,7 @@ _Reading = _struct(Reading)
 _Written = _struct(Written)
 _Session = _struct(Session)
 _Opening = _struct(Opening, session=_Session)
-_Outcome = _struct(Outcome, session=_Session)
+_Outcome = _struct(Outcome, session=_Session, carried=ctypes.c_uint64)
 _Part = _struct(Part)
 
 

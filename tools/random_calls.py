@@ -81,7 +81,7 @@ def spelled(rng, tree, place):
     return blank + text + blank if bare and rng.random() < 0.9 else b'(' + blank + text + b')'
 
 
-KNOWN = [rb'(\x.x x)(\y.y)', rb'(\x.x x)(\x.x x)', rb'\x.x', rb'(\f.\x.f(f x))(\y.y)(\z.z)', rb'(\x.\y.x)(\z.z)(\w.w w)']
+KNOWN = [rb'(\x.x x)(\y.y)', rb'(\x.x x)(\x.x x)', rb'\x.x', rb'(\f.\x.f(f x))(\y.y)(\z.z)', rb'(\x.\y.x)(\z.z)(\w.w w)', rb'(\x.(\y.(\z.z)y)(x x))(\z.z)']
 
 
 def random_text(rng):
@@ -158,12 +158,12 @@ def expected(name, w, n, s, log, tape, numbers):
     """The outcome; log and tape are lists, changed in place."""
     if s.direction > 1:  # 9, after 7 and 8
         refusal = 7 if reference.accepted(w, n) is None else 8 if max(len(log), len(tape)) > 16384 else 9
-        return yildreuz.Outcome(s, 0, CODES['refused'], refusal, 0, 0)
-    se, steps, stop, peak = MEANT[name](w, n, session_of(s), log, tape, *numbers)
+        return yildreuz.Outcome(s, 0, CODES['refused'], refusal, 0, 0, 0)
+    se, steps, stop, peak, carried = MEANT[name](w, n, session_of(s), log, tape, *numbers)
     if stop.split()[0] in ('answer', 'refused'):
         stop, value = stop.split()
-        return yildreuz.Outcome(numbers_of(se), steps, CODES[stop], int(value), 0, peak)
-    return yildreuz.Outcome(numbers_of(se), steps, CODES[stop], 0, 0, peak)
+        return yildreuz.Outcome(numbers_of(se), steps, CODES[stop], int(value), 0, peak, carried)
+    return yildreuz.Outcome(numbers_of(se), steps, CODES[stop], 0, 0, peak, carried)
 
 
 def expected_top(w, n, s, log, tape, which):

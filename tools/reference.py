@@ -1,5 +1,5 @@
 #!/usr/bin/env python3
-"""An independent reading of document 01, and of changes 1 to 3 and 5 of document 02, from which the expected outputs of the programs `cases` and `winder` are worked out.
+"""An independent reading of document 01, and of changes 1 to 3, 5 and 6 of document 02, from which the expected outputs of the programs `cases` and `winder` are worked out.
 
   tools/reference.py cases < SCRIPT   what `cases` must print for a script of cases, as crates/cases/stdin (script.py)
   tools/reference.py winder < TERM    what `winder` must print for a term
@@ -140,45 +140,58 @@ class Machine:
         return self.row(v)[4] - self.row(self.row(v)[1])[4]
 
     def step(self, s):
-        """Entries are (variable, (entries..)), a bullet is None; lists have their top first."""
+        """The next state, and the entries that its rule moves between log and tape; or None.
+
+        Entries are (variable, (entries..)), a bullet is None; lists have their top first.
+        """
         i, d, log, tape = s
         kind, left, right, parent, level = self.row(i)
         if d == 'd':
-            if kind == 3:
-                return (left, 'd', log, [None] + tape)
-            if kind == 2 and tape and tape[0] is None:
-                return (left, 'd', log, tape[1:])
-            if kind == 1:
+            if kind == 3:  # rule 1
+                return (left, 'd', log, [None] + tape), []
+            if kind == 2 and tape and tape[0] is None:  # rule 2
+                return (left, 'd', log, tape[1:]), []
+            if kind == 1:  # rule 3: the inner entries
                 a = self.arity(i)
                 if a > len(log):
                     return None
-                return (left, 'u', log[a:], [(i, tuple(log[:a]))] + tape)
-            if kind == 2 and tape and self.row(tape[0][0])[0] == 1 and self.row(tape[0][0])[1] == i:
+                return (left, 'u', log[a:], [(i, tuple(log[:a]))] + tape), log[:a]
+            if kind == 2 and tape and self.row(tape[0][0])[0] == 1 and self.row(tape[0][0])[1] == i:  # rule 4: the inner entries
                 v, es = tape[0]
-                return (v, 'u', list(es) + log, tape[1:])
+                return (v, 'u', list(es) + log, tape[1:]), es
             return None
         pk, pl, pr = self.row(parent)[:3]
         if pk == 3 and pl == i and tape:
-            if tape[0] is None:
-                return (parent, 'u', log, tape[1:])
-            return (pr, 'd', [tape[0]] + log, tape[1:])
-        if pk == 2 and pl == i:
-            return (parent, 'u', log, [None] + tape)
-        if pk == 3 and pr == i and pl != i and log:
-            return (pl, 'd', log[1:], [log[0]] + tape)
+            if tape[0] is None:  # rule 5
+                return (parent, 'u', log, tape[1:]), []
+            return (pr, 'd', [tape[0]] + log, tape[1:]), [tape[0]]  # rule 6: the entry
+        if pk == 2 and pl == i:  # rule 7
+            return (parent, 'u', log, [None] + tape), []
+        if pk == 3 and pr == i and pl != i and log:  # rule 8: the entry
+            return (pl, 'd', log[1:], [log[0]] + tape), [log[0]]
         return None
 
     def step_back(self, s):
-        i, d, log, tape = s
-        u = self.step((i, 'u' if d == 'd' else 'd', log, tape))
-        return u and (u[0], 'u' if u[1] == 'd' else 'd', u[2], u[3])
+        """Turn, one step, turn. It moves what that step moves."""
+        made = self.step(turned(s))
+        return made and (turned(made[0]), made[1])
 
     def answers(self, s):
         return s[1] == 'd' and self.row(s[0])[0] == 2 and not s[3]
 
 
+def turned(s):
+    return s[0], 'u' if s[1] == 'd' else 'd', s[2], s[3]
+
+
 def entry_words(e):
-    return [e[0]] + [w for x in e[1] for w in entry_words(x)]
+    """Its variable's word, then those of the entries inside, iteratively: `work` has the entries still to be put down, the next of them last."""
+    out, work = [], [e]
+    while work:
+        v, es = work.pop()
+        out.append(v)
+        work += reversed(es)
+    return out
 
 
 def words(items):
@@ -201,31 +214,32 @@ def weight(m, s):
 
 
 def wind(m, s, position, count, log_room, tape_room, back):
-    """The last state, its position, the steps, the stop and the peak."""
-    steps, peak = 0, weight(m, s)
+    """The last state, its position, the steps, the stop, the peak and the words carried: of each step, those of the entries that it moves."""
+    steps, peak, carried = 0, weight(m, s), 0
     while True:
         if count == 0:
-            return s, position, steps, 'spent', peak
+            return s, position, steps, 'spent', peak, carried
         if back:
             if position == 0:
-                return s, position, steps, 'start', peak
-            u = m.step_back(s)
-            if u is None:
-                return s, position, steps, 'jam', peak
+                return s, position, steps, 'start', peak, carried
+            made = m.step_back(s)
+            if made is None:
+                return s, position, steps, 'jam', peak, carried
         else:
             if m.answers(s):
-                return s, position, steps, 'answer %d' % s[0], peak
-            u = m.step(s)
-            if u is None:
-                return s, position, steps, 'jam', peak
+                return s, position, steps, 'answer %d' % s[0], peak, carried
+            made = m.step(s)
+            if made is None:
+                return s, position, steps, 'jam', peak, carried
             if position == GREATEST:
-                return s, position, steps, 'far', peak
+                return s, position, steps, 'far', peak, carried
+        u, moved = made
         if len(words(u[2])) > log_room:
-            return s, position, steps, 'log full', peak
+            return s, position, steps, 'log full', peak, carried
         if len(words(u[3])) > tape_room:
-            return s, position, steps, 'tape full', peak
+            return s, position, steps, 'tape full', peak, carried
         s, position, steps, count = u, position + (-1 if back else 1), steps + 1, count - 1
-        peak = max(peak, weight(m, s))
+        peak, carried = max(peak, weight(m, s)), carried + len(words(moved))
 
 
 START = (1, 'd', [], [])
@@ -390,15 +404,15 @@ def given(w, n, se, log, tape):
 
 
 def call(w, n, se, log, tape, count, back):
-    """The session after it, the steps, the stop and the peak."""
+    """The session after it, the steps, the stop, the peak and the words carried."""
     m, s, number = given(w, n, se, log, tape)
     if number:
-        return se, 0, 'refused %d' % number, 0
-    s, p, steps, stop, peak = wind(m, s, se.position, count, len(log), len(tape), back)
+        return se, 0, 'refused %d' % number, 0, 0
+    s, p, steps, stop, peak, carried = wind(m, s, se.position, count, len(log), len(tape), back)
     L, T = words(s[2]), words(s[3])
     log[:] = lay(L, len(log))
     tape[:] = lay(T, len(tape))
-    return Session(s[0], s[1], p, len(L), len(T)), steps, stop, peak
+    return Session(s[0], s[1], p, len(L), len(T)), steps, stop, peak, carried
 
 
 def go_to(w, n, se, log, tape, q):
@@ -410,7 +424,7 @@ def go_to(w, n, se, log, tape, q):
 def passed(m, s, position, count, log_room, tape_room, back):
     """The states that winding by a count comes to, one by one; the present one is none of them."""
     for _ in range(count):
-        s, position, made, _, _ = wind(m, s, position, 1, log_room, tape_room, back)
+        s, position, made, _, _, _ = wind(m, s, position, 1, log_room, tape_room, back)
         if made == 0:
             return
         yield s
@@ -433,18 +447,18 @@ def back_to(w, n, se, log, tape, node, dir):
     """Back by the steps to the last earlier position with this node and direction; with none, by no step."""
     number, steps = search(w, n, se, log, tape, node, dir, se.position, True)
     if number:
-        return se, 0, 'refused %d' % number, 0
-    there, _, _, peak = call(w, n, se, log, tape, steps, True)
-    return there, steps, 'found' if steps else 'none', peak
+        return se, 0, 'refused %d' % number, 0, 0
+    there, _, _, peak, carried = call(w, n, se, log, tape, steps, True)
+    return there, steps, 'found' if steps else 'none', peak, carried
 
 
 def forward_to(w, n, se, log, tape, node, dir, count):
     """Forward by the steps to the next later one that the count reaches; with none, by the count."""
     number, steps = search(w, n, se, log, tape, node, dir, count, False)
     if number:
-        return se, 0, 'refused %d' % number, 0
-    there, made, stop, peak = call(w, n, se, log, tape, steps or count, False)
-    return there, made, 'found' if steps else stop, peak
+        return se, 0, 'refused %d' % number, 0, 0
+    there, made, stop, peak, carried = call(w, n, se, log, tape, steps or count, False)
+    return there, made, 'found' if steps else stop, peak, carried
 
 
 def top(w, n, se, log, tape, which):
@@ -468,7 +482,7 @@ def winder(text):
     m, s, lines = Machine([table[5 * i:5 * i + 5] for i in range(n)]), START, []
     for p in range(10001):
         lines.append(' '.join(['%d' % p, '%d' % s[0], s[1], 'L'] + ['%d' % x for x in words(s[2])] + ['T'] + ['%d' % x for x in words(s[3])]))
-        s2, _, steps, stop, _ = wind(m, s, p, 1 if p < 10000 else 0, 1024, 1024, False)
+        s2, _, steps, stop, _, _ = wind(m, s, p, 1 if p < 10000 else 0, 1024, 1024, False)
         if steps == 0:
             return lines + [stop]
         s = s2

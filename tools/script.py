@@ -147,8 +147,8 @@ class Desk:
         return ' %s refusal %d' % (self.session.shown(), number)
 
     def wound(self, outcome):
-        self.session, steps, stop, peak = outcome
-        return ' %s steps %d %s peak %d' % (self.session.shown(), steps, stop, peak)
+        self.session, steps, stop, peak, carried = outcome
+        return ' %s steps %d %s peak %d carried %d' % (self.session.shown(), steps, stop, peak, carried)
 
     def walked(self, table, n, session, log, tape, count):
         outcome = call(table, n, session, log, tape, 0, False)
@@ -187,7 +187,7 @@ def plain_states(table, n, count, log_room, tape_room):
         return []
     m, states = Machine(rows), [START]
     while len(states) <= count:
-        s, _, steps, _, _ = wind(m, states[-1], len(states) - 1, 1, log_room, tape_room, False)
+        s, _, steps, _, _, _ = wind(m, states[-1], len(states) - 1, 1, log_room, tape_room, False)
         if steps == 0:
             break
         states.append(s)

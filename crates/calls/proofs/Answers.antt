@@ -30,7 +30,7 @@ use Rattle.calls.proofs.Visits.{Unrefused, wind-unrefused, seek-unrefus
 
 -- a refused call
 pub as-given : (k : ℕ) (g : Given) → RefusedCall g (refusedOutcome k g)
-as-given k g = record { session-is = refl; log-is = refl; tape-is = refl; no-steps = refl; no-peak = refl }
+as-given k g = record { session-is = refl; log-is = refl; tape-is = refl; no-steps = refl; no-peak = refl; nothing-carried = refl }
 
 unchanged : (o : Option ℕ) (s : Option State) (g : Given) (run : Moment → Run) → ((m : Moment) → Unrefused (run m .stop)) → (k : ℕ)
     → outcomeBy o s g run .stop ≡ refused k → RefusedCall g (outcomeBy o s g run)

@@ -1,4 +1,4 @@
--- Back by any count, and forward by the steps made: spent, and the session and every word of both slices are again those given. So a call back that says none gives back what it got.
+-- Back by any count, and forward by the steps made: spent, and the session and every word of both slices are again those given, and as many words were carried. So a call back that says none gives back what it got.
 use mathlib.Core.Path.{_≡_, refl, sym, ap, _∙_}
 use mathlib.Core.Bool.{Bool, true, false}
 use mathlib.Core.Option.{none}
@@ -25,13 +25,14 @@ use Rattle.calls.proofs.RoundTrip.{Restored}
 abbrev pub forwardBy : Given → Outcome → Outcome
 forwardBy g o = forwardOf (givenTo (g .table) (g .n) (leftBy o)) (o .steps)
 
--- a call back that says none: what was given, no step, and the present state's own weight
+-- a call back that says none: what was given, no step, the present state's own weight, and nothing carried, whatever its search carried
 pub record Unmoved (g : Given) (s : State) (o : Outcome) : Type 0 where
   pub session-is : o .session ≡ g .session
   pub log-is : o .log ≡ g .log
   pub tape-is : o .tape ≡ g .tape
   pub no-steps : o .steps ≡ 0
   pub own-weight : o .peak ≡ weight (tableIn (g .table) (g .n)) s
+  pub nothing-carried : o .carried ≡ 0
 
 module _ (g : Given) (s : State) (h : Enters g s) where
   abbrev T : Table
@@ -75,7 +76,7 @@ module _ (g : Given) (s : State) (h : Enters g s) where
     wound-back =
         let there : laidDown r (home .last) ≡ given = laid-as-given (came .last-is) in
         rw (winds g s h back c, forward-home) (
-          record { session-is = ap (λ x. x .session) there; log-is = ap (λ x. x .log) there; tape-is = ap (λ x. x .tape) there; steps-are = came .steps-are },
+          record { session-is = ap (λ x. x .session) there; log-is = ap (λ x. x .log) there; tape-is = ap (λ x. x .tape) there; steps-are = came .steps-are; carried-is = came .carried-is },
           came .spent-is,
         )
 
@@ -85,7 +86,7 @@ module _ (g : Given) (s : State) (h : Enters g s) where
       (each-sought (λ x. x .stop ≡ Stop.none → Unmoved g s (wound r x)) (λ k f e. absurd (found-not-none e))
       (λ e.
       let there : laidDown r here ≡ given = laid-as-given refl in
-      record { session-is = ap (λ x. x .session) there; log-is = ap (λ x. x .log) there; tape-is = ap (λ x. x .tape) there; no-steps = refl; own-weight = refl })
+      record { session-is = ap (λ x. x .session) there; log-is = ap (λ x. x .log) there; tape-is = ap (λ x. x .tape) there; no-steps = refl; own-weight = refl; nothing-carried = refl })
       (sought-back T r v here))
 
 -- Of every session that is not refused. (A position is 0 to 4,294,967,295.)

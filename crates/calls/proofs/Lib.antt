@@ -15,6 +15,7 @@ pub mod Answers
 pub mod Outcomes
 pub mod Top
 pub mod Weight
+pub mod Carried
 pub mod Third
 pub mod RoundTrip
 pub mod BackTrip

@@ -47,7 +47,7 @@ module _ (way : Way) (T : Table) where
     covered-longer zero u l e = omega (arith, same-weight m u e)
     covered-longer (suc j) u l e = omega (arith, w .covered j u (le-of-suc-le-suc l) (rw n at e))
 
-    highest-longer : Dec (run .peak ≤ weight T (m .state)) → Highest m (longer T m run)
+    highest-longer : Dec (run .peak ≤ weight T (m .state)) → Highest m (longer way T m run)
     highest-longer (yes h) = record { steps = 0; within = zero-le; moment = m; stood = refl; weight-is = omega arith }
     highest-longer (no h) = record {
       steps = suc (w .highest .steps);
@@ -57,7 +57,7 @@ module _ (way : Way) (T : Table) where
       weight-is = w .highest .weight-is ∙ omega arith;
     }
 
-    walked-longer : Walked m (longer T m run)
+    walked-longer : Walked m (longer way T m run)
     walked-longer = record { last-is = rw n (w .last-is); covered = covered-longer; highest = highest-longer (decLe (run .peak) (weight T (m .state))) }
 
   pub walked : (r : Room) (c : ℕ) (m : Moment) → Walked m (wind way T r c m)

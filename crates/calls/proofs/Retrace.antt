@@ -1,23 +1,26 @@
--- Back, and forward again by the steps made: each step taken back is made again, and the walk ends as spent where it began.
-use mathlib.Core.Path.{_≡_, refl, sym, ap, _∙_}
+-- Back, and forward again by the steps made: each step taken back is made again and carries what it carried, and the walk ends as spent where it began.
+use mathlib.Core.Path.{_≡_, refl, sym, ap, ap₂, _∙_}
 use mathlib.Core.Bool.{Bool, true, false, false≢true}
 use mathlib.Core.Option.{none, some, Option·some-ne-none}
 use mathlib.Core.List.{[], _∷_}
 use Prim.Native.Nat.{ℕ, zero, suc, _+_, _-_, _≤_}
-use native.Mathlib.Nat.{add-zero}
+use native.Mathlib.Nat.{zero-add, add-zero}
 use native.Mathlib.Omega.{arith}
 use Rattle.term.specs.Table.{Table, Kind, variable, abstraction, application, nothing, kindAt}
 use Rattle.term.specs.Facts.{Facts}
 use Rattle.machine.specs.Entries.{Log, Tape}
 use Rattle.machine.specs.Machine.{Dir, down, up, State, goDown, stepBy, step, stepBack}
 use Rattle.machine.specs.Good.{Good}
+use Rattle.machine.specs.Carried.{carriedBack, carriedOver}
 use Rattle.machine.proofs.Reverse.{back-redone, back-keeps-good}
+use Rattle.machine.proofs.Carried.{back-carries}
+use Rattle.machine.proofs.Sums.{after-carries, over-none, over-last}
 use Rattle.calls.specs.Session.{Stop, spent}
 use Rattle.calls.specs.Stops.{forward, back, Moment, moment, Room, greatest, isAnswerBy, isAnswer, stopBefore}
 use Rattle.calls.specs.Winding.{Run, ended, wind}
 use Rattle.calls.proofs.Stops.{Fits, no-halt-forward, start-before-jam, halt-before-full, no-stop-next, fits-next}
 use Rattle.calls.proofs.Winds.{next-is, each-run}
-use Rattle.calls.proofs.Runs.{Trail, begun, then, trail-none}
+use Rattle.calls.proofs.Runs.{Trail, begun, then, trail-none, trail-after, forward-on}
 use Rattle.calls.proofs.Visits.{wind-none, wind-goes-on}
 
 -- A state with a step is no answer.
@@ -80,13 +83,21 @@ module _ (T : Table) (r : Room) where
     pub good : Good T (run .last .state)
     pub fits : Fits r (run .last .state)
     pub position-is : run .last .position + run .steps ≡ m .position
+    pub carried-is : run .carried ≡ carriedOver T (run .last .state) (run .steps) 0
 
   module _ (F : Facts T) where
     backed-nowhere : (m : Moment) (x : Stop) → Good T (m .state) → Fits r (m .state) → Backed m (ended T m x)
-    backed-nowhere m x g f = record { trail = begun; good = g; fits = f; position-is = add-zero (m .position) }
+    backed-nowhere m x g f = record { trail = begun; good = g; fits = f; position-is = add-zero (m .position); carried-is = sym (over-none T (m .state) 0) }
 
     past-start : (c : ℕ) (m : Moment) → stopBefore back T r (suc c) m ≡ none → m .position ≡ 0 → ⊥
     past-start c m e z = Option·some-ne-none Stop.start (sym (halt-before-full back T r (suc c) m Stop.start (start-before-jam T c m z)) ∙ e)
+
+    -- The step back from m carries what the last step of the trail does.
+    sums : (m u : Moment) (run : Run) → Good T (m .state) → stepBack T (m .state) ≡ some (u .state) → Backed u run
+        → carriedBack T (m .state) + run .carried ≡ carriedOver T (run .last .state) (suc (run .steps)) 0
+    sums m u run g came h =
+        ap₂ _+_ (back-carries T F (m .state) (u .state) g came ∙ sym (after-carries T (run .last .state) (run .steps) (trail-after T r (run .last .state) (h .trail)))) (h .carried-is)
+        ∙ sym (over-last T (run .last .state) (run .steps) 0 (run .steps) (zero-add (run .steps)))
 
     pub backed : (c : ℕ) (m : Moment) → Good T (m .state) → Fits r (m .state) → Backed m (wind back T r c m)
     backed =
@@ -101,6 +112,7 @@ module _ (T : Table) (r : Room) where
           good = h .good;
           fits = h .fits;
           position-is = omega arith;
+          carried-is = sums m u run g came h;
         })
 
     -- So forward by its steps comes back, and is spent.
@@ -108,6 +120,7 @@ module _ (T : Table) (r : Room) where
       pub last-is : home .last ≡ m
       pub steps-are : home .steps ≡ out .steps
       pub spent-is : home .stop ≡ spent
+      pub carried-is : home .carried ≡ out .carried
 
     pub again : (c : ℕ) (m : Moment) → Good T (m .state) → Fits r (m .state) → m .position ≤ greatest
         → Again m (wind back T r c m) (wind forward T r (wind back T r c m .steps) (wind back T r c m .last))
@@ -116,4 +129,12 @@ module _ (T : Table) (r : Room) where
         let h : Backed m out = backed c m g f in
         let at : out .last .position + out .steps ≡ m .position = h .position-is in
         let a = along (out .steps) (out .last .position) (h .trail) (omega arith) in
-        record { last-is = a .last-is ∙ ap (moment (m .state)) at; steps-are = a .steps-are; spent-is = a .spent-is }
+        record {
+          last-is = a .last-is ∙ ap (moment (m .state)) at;
+          steps-are = a .steps-are;
+          spent-is = a .spent-is;
+          carried-is =
+              forward-on T r (out .last .state) (out .steps) (out .last) 0 begun .carried-is
+              ∙ ap (λ k. carriedOver T (out .last .state) k 0) (a .steps-are)
+              ∙ sym (h .carried-is);
+        }

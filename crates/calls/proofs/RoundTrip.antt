@@ -1,4 +1,4 @@
--- Forward by any count, and back by the steps made: the session and every word of both slices are again those given.
+-- Forward by any count, and back by the steps made: the session and every word of both slices are again those given, and as many words were carried.
 use mathlib.Core.Path.{_≡_, refl, sym, ap, ap₂, _∙_, subst}
 use mathlib.Core.Option.{Option, none, some}
 use Prim.Native.Nat.{ℕ}
@@ -8,6 +8,7 @@ use Rattle.term.specs.Table.{Table, tableIn}
 use Rattle.term.specs.Facts.{Facts}
 use Rattle.term.proofs.Facts.{accepted-facts}
 use Rattle.machine.specs.Machine.{State}
+use Rattle.machine.specs.Carried.{carriedOver}
 use Rattle.calls.specs.Session.{Outcome, Given}
 use Rattle.calls.specs.Stops.{forward, back, moment, Room, room}
 use Rattle.calls.specs.Winding.{Run, wind}
@@ -26,9 +27,10 @@ pub record Restored (g : Given) (a b : Outcome) : Type 0 where
   pub log-is : b .log ≡ g .log
   pub tape-is : b .tape ≡ g .tape
   pub steps-are : b .steps ≡ a .steps
+  pub carried-is : b .carried ≡ a .carried
 
 refused-trip : (g : Given) (c k : ℕ) → callNumber g ≡ some k → Restored g (forwardOf g c) (backBy g (forwardOf g c))
-refused-trip g c k e = rw (wind-refused g k forward e c, wind-refused g k back e 0) (record { session-is = refl; log-is = refl; tape-is = refl; steps-are = refl })
+refused-trip g c k e = rw (wind-refused g k forward e c, wind-refused g k back e 0) (record { session-is = refl; log-is = refl; tape-is = refl; steps-are = refl; carried-is = refl })
 
 module _ (g : Given) (c : ℕ) (s : State) (h : Enters g s) where
   abbrev T′ : Table
@@ -79,9 +81,13 @@ module _ (g : Given) (c : ℕ) (s : State) (h : Enters g s) where
       laid-winds r (out .last) (trail-fits T′ r s fits trail) (g .table) (g .n) (h .accepted-table) (trail-good T′ r s facts (h .holds .good) trail)
       (h .short-log) (h .short-tape) back (out .steps)
 
+  -- Each step taken back carries what it carried.
+  same-sum : home .carried ≡ out .carried
+  same-sum = off .carried-is ∙ ap₂ (carriedOver T′ s) (omega arith) (omega arith) ∙ sym (on .carried-is)
+
   wound-trip : Restored g (forwardOf g c) (backBy g (forwardOf g c))
   wound-trip = rw (winds g s h forward c, back-home)
-      (record { session-is = ap (λ x. x .session) home-is; log-is = ap (λ x. x .log) home-is; tape-is = ap (λ x. x .tape) home-is; steps-are = off .steps-are ∙ omega arith })
+      (record { session-is = ap (λ x. x .session) home-is; log-is = ap (λ x. x .log) home-is; tape-is = ap (λ x. x .tape) home-is; steps-are = off .steps-are ∙ omega arith; carried-is = same-sum })
 
 -- A refused call makes no step, and the call back is refused as it was.
 pub round-trip : (g : Given) (c : ℕ) → Restored g (forwardOf g c) (backBy g (forwardOf g c))

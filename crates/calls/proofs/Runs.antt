@@ -1,5 +1,5 @@
--- Winding along a trail of the plain machine: a run forward goes on from its end, a run back takes its last steps off again.
-use mathlib.Core.Path.{_≡_, refl, sym, ap, _∙_, subst}
+-- Winding along a trail of the plain machine: a run forward goes on from its end, a run back takes its last steps off again; and what either carries.
+use mathlib.Core.Path.{_≡_, refl, sym, ap, ap₂, _∙_, subst}
 use mathlib.Core.Option.{none, some, Option·some-injective}
 use Prim.Native.Nat.{ℕ, zero, suc, _+_, _-_, _≤_, _<_, min}
 use native.Mathlib.Nat.{add-zero, sub-zero}
@@ -8,7 +8,10 @@ use Rattle.term.specs.Table.{Table}
 use Rattle.term.specs.Facts.{Facts}
 use Rattle.machine.specs.Machine.{State, step, stepBack, afterFrom}
 use Rattle.machine.specs.Good.{Good}
+use Rattle.machine.specs.Carried.{carriedBack, carriedAfter, carriedOver}
 use Rattle.machine.proofs.Reverse.{keeps-good, step-undone}
+use Rattle.machine.proofs.Carried.{back-carries}
+use Rattle.machine.proofs.Sums.{after-carries, over-none, over-first, over-last}
 use Rattle.calls.specs.Session.{Stop, spent, jam, far, logFull, tapeFull, found, answer, refused}
 use Rattle.calls.specs.Stops.{forward, back, Moment, moment, Room, greatest, stopBefore}
 use Rattle.calls.specs.Winding.{Run, ended, longer, wind}
@@ -20,7 +23,7 @@ use Rattle.calls.proofs.Winds.{each-run}
 module _ (T : Table) (r : Room) (P : ℕ → Moment → Run → Type 0)
     (none-left : (m : Moment) → P 0 m (ended T m spent))
     (stops : (c : ℕ) (m : Moment) (x : Stop) → stopBefore forward T r (suc c) m ≡ some x → P (suc c) m (ended T m x))
-    (steps : (c : ℕ) (m : Moment) (run : Run) → stopBefore forward T r (suc c) m ≡ none → (g : Goes T r m) → P c (moment (g .next) (suc (m .position))) run → P (suc c) m (longer T m run)) where
+    (steps : (c : ℕ) (m : Moment) (run : Run) → stopBefore forward T r (suc c) m ≡ none → (g : Goes T r m) → P c (moment (g .next) (suc (m .position))) run → P (suc c) m (longer forward T m run)) where
   each-forward : (c : ℕ) (m : Moment) → P c m (wind forward T r c m)
   each-forward =
       each-run forward T r P none-left stops
@@ -74,14 +77,16 @@ module _ (T : Table) (r : Room) (s₀ : State) where
   pub record On (k p : ℕ) (run : Run) : Type 0 where
     pub trail : Trail T r s₀ (k + run .steps) (run .last .state)
     pub position-is : run .last .position ≡ p + run .steps
+    pub carried-is : run .carried ≡ carriedOver T s₀ (run .steps) k
 
   on-here : (k p : ℕ) (s : State) (x : Stop) → Trail T r s₀ k s → On k p (ended T (moment s p) x)
-  on-here k p s x t = record { trail = subst (λ j. Trail T r s₀ j s) (sym (add-zero k)) t; position-is = sym (add-zero p) }
+  on-here k p s x t = record { trail = subst (λ j. Trail T r s₀ j s) (sym (add-zero k)) t; position-is = sym (add-zero p); carried-is = sym (over-none T s₀ k) }
 
-  on-longer : (k p : ℕ) (m : Moment) (run : Run) → On (suc k) (suc p) run → On k p (longer T m run)
-  on-longer k p m run o = record {
+  on-longer : (k p : ℕ) (m : Moment) (run : Run) → Trail T r s₀ k (m .state) → On (suc k) (suc p) run → On k p (longer forward T m run)
+  on-longer k p m run t o = record {
     trail = subst (λ j. Trail T r s₀ j (run .last .state)) (omega arith) (o .trail);
     position-is = (let e : run .last .position ≡ suc p + run .steps = o .position-is in omega arith);
+    carried-is = ap₂ _+_ (sym (after-carries T s₀ k (trail-after t))) (o .carried-is) ∙ sym (over-first T s₀ (run .steps) k);
   }
 
   pub forward-on : (c : ℕ) (m : Moment) (k : ℕ) → Trail T r s₀ k (m .state) → On k (m .position) (wind forward T r c m)
@@ -89,7 +94,7 @@ module _ (T : Table) (r : Room) (s₀ : State) where
       each-forward T r (λ c m run. (k : ℕ) → Trail T r s₀ k (m .state) → On k (m .position) run)
       (λ m k t. on-here k (m .position) (m .state) spent t)
       (λ c m x e k t. on-here k (m .position) (m .state) x t)
-      (λ c m run e g more k t. on-longer k (m .position) m run (more (suc k) (then t (g .steps) (g .fits))))
+      (λ c m run e g more k t. on-longer k (m .position) m run t (more (suc k) (then t (g .steps) (g .fits))))
 
   -- Its steps are those that the stops allow on the plain machine.
   pub forward-counted : (c : ℕ) (m : Moment) → afterFrom T s₀ (m .position) ≡ some (m .state) → wind forward T r c m .steps ≡ allowed T s₀ r c (m .position)
@@ -118,6 +123,7 @@ module _ (T : Table) (r : Room) (s₀ : State) where
     pub steps-are : run .steps ≡ min c k
     pub trail : Trail T r s₀ (k - min c k) (run .last .state)
     pub position-is : run .last .position ≡ p + (k - min c k)
+    pub carried-is : run .carried ≡ carriedOver T s₀ (min c k) (k - min c k)
     pub unhindered : Unhindered (run .stop)
 
   off-here : (c k p : ℕ) (s : State) (x : Stop) → min c k ≡ 0 → Unhindered x → Trail T r s₀ k s → Off c k p (ended T (moment s (p + k)) x)
@@ -125,14 +131,16 @@ module _ (T : Table) (r : Room) (s₀ : State) where
     steps-are = sym e;
     trail = subst (λ j. Trail T r s₀ j s) (omega arith) t;
     position-is = omega arith;
+    carried-is = sym (over-none T s₀ (k - min c k)) ∙ ap (λ j. carriedOver T s₀ j (k - min c k)) (sym e);
     unhindered = h;
   }
 
-  off-longer : (c k p : ℕ) (m : Moment) (run : Run) → Off c k p run → Off (suc c) (suc k) p (longer T m run)
-  off-longer c k p m run o = record {
+  off-longer : (c k p : ℕ) (m : Moment) (run : Run) → carriedBack T (m .state) ≡ carriedAfter T s₀ k → Off c k p run → Off (suc c) (suc k) p (longer back T m run)
+  off-longer c k p m run h o = record {
     steps-are = (let e : run .steps ≡ min c k = o .steps-are in omega arith);
     trail = subst (λ j. Trail T r s₀ j (run .last .state)) (omega arith) (o .trail);
     position-is = (let e : run .last .position ≡ p + (k - min c k) = o .position-is in omega arith);
+    carried-is = ap₂ _+_ h (o .carried-is) ∙ sym (over-last T s₀ (min c k) (k - min c k) k (omega arith)) ∙ ap₂ (carriedOver T s₀) (omega arith) (omega arith);
     unhindered = o .unhindered;
   }
 
@@ -149,11 +157,14 @@ module _ (T : Table) (r : Room) (s₀ : State) where
             halt-before-full back T r (suc c) (moment s₀ (p + 0)) Stop.start (start-before-jam T c (moment s₀ (p + 0)) (omega arith))
     back-off (suc c) p (then {k = k} {u = u} {s = s} t e f) h =
         rw (passes, undone)
-        (subst (λ q. Off (suc c) (suc k) p (longer T (moment s (p + suc k)) (wind back T r c (moment u q)))) lower
-        (off-longer c k p (moment s (p + suc k)) (wind back T r c (moment u (p + k))) (back-off c p t (λ l. h (omega arith)))))
+        (subst (λ q. Off (suc c) (suc k) p (longer back T (moment s (p + suc k)) (wind back T r c (moment u q)))) lower
+        (off-longer c k p (moment s (p + suc k)) (wind back T r c (moment u (p + k))) carries (back-off c p t (λ l. h (omega arith)))))
       where
         undone : stepBack T s ≡ some u
         undone = step-undone T F u s (trail-good F good t) e
+
+        carries : carriedBack T s ≡ carriedAfter T s₀ k
+        carries = back-carries T F s u (keeps-good T F u s (trail-good F good t) e) undone ∙ sym (after-carries T s₀ k (trail-after t))
 
         passes : stopBefore back T r (suc c) (moment s (p + suc k)) ≡ none
         passes =

@@ -1,11 +1,11 @@
--- The third demand: what stands after each call of a list is the plain machine's.
+-- The third demand: what stands after each call of a list is the plain machine's, and what the call carried.
 use mathlib.Core.Path.{_≡_, refl, sym, ap, _∙_, subst}
 use mathlib.Core.Logic.{inl, inr}
 use mathlib.Core.Bool.{Bool, true, false, false≢true}
 use mathlib.Core.Option.{none, some}
 use mathlib.Core.List.{List, [], _∷_}
 use Prim.Native.Nat.{ℕ, _+_, _-_, _*_, _≤_, _<_, min, zero-le}
-use native.Mathlib.Nat.{zero-add}
+use native.Mathlib.Nat.{zero-add, add-zero}
 use native.Mathlib.Omega.{arith}
 use lib.ListN.{length, take}
 use lib.Dec.{leb}
@@ -18,8 +18,10 @@ use Rattle.term.proofs.Table.{ignored, accepted-ignores}
 use Rattle.term.proofs.Accepted.{accepts-all}
 use Rattle.term.proofs.Facts.{accepted-facts}
 use Rattle.machine.specs.Machine.{State, startState, afterFrom}
+use Rattle.machine.specs.Carried.{carriedOver, carriedBetween}
 use Rattle.machine.specs.Good.{Good}
 use Rattle.machine.proofs.After.{start-good}
+use Rattle.machine.proofs.Sums.{over-none, between-up, between-down}
 use Rattle.calls.specs.Session.{Stop, Outcome, Given}
 use Rattle.calls.specs.Stops.{forward, back, Moment, moment, Room, room}
 use Rattle.calls.specs.Winding.{Run, ended, wind}
@@ -58,25 +60,27 @@ module _ (w : List ℕ) (n : ℕ) (s₀ : State) (r : Room) where
     tape-is = ap (λ x. x .tape) (h .laid);
   }
 
-  -- A call that takes p to q; where B holds, no jam and no full slice ends it.
+  -- A call that takes p to q, and carries what the plain machine's steps between them do; where B holds, no jam and no full slice ends it.
   pub record Takes (B : Type 0) (p q : ℕ) (o : Outcome) : Type 0 where
     pub stands : OnTrail q (leftBy o)
     pub steps-are : o .steps ≡ (q - p) + (p - q)
     pub unrefused : Unrefused (o .stop)
     pub unhindered : B → Unhindered (o .stop)
+    pub carried-is : o .carried ≡ carriedBetween (tableIn w n) s₀ p q
 
   takes-by-run : (B : Type 0) (p q : ℕ) (run : Run) → Trail (tableIn w n) r s₀ q (run .last .state) → run .last .position ≡ q → run .steps ≡ (q - p) + (p - q)
-      → Unrefused (run .stop) → (B → Unhindered (run .stop)) → Takes B p q (wound r run)
-  takes-by-run B p q run t at steps i u = record {
+      → Unrefused (run .stop) → (B → Unhindered (run .stop)) → run .carried ≡ carriedBetween (tableIn w n) s₀ p q → Takes B p q (wound r run)
+  takes-by-run B p q run t at steps i u sum = record {
     stands = record { state = run .last .state; trail = t; laid = ap (λ x. laidDown r (moment (run .last .state) x)) at };
     steps-are = steps;
     unrefused = i;
     unhindered = u;
+    carried-is = sum;
   }
 
   -- the same run, as found
   found-takes : (B D : Type 0) (p q : ℕ) (run : Run) → Takes D p q (wound r run) → Takes B p q (wound r (foundBy run))
-  found-takes B D p q run h = record { stands = h .stands; steps-are = h .steps-are; unrefused = found-unrefused; unhindered = λ x. tt }
+  found-takes B D p q run h = record { stands = h .stands; steps-are = h .steps-are; unrefused = found-unrefused; unhindered = λ x. tt; carried-is = h .carried-is }
 
   module _ (b : Begins w n s₀ r) where
     facts : Facts (tableIn w n)
@@ -126,6 +130,7 @@ module _ (w : List ℕ) (n : ℕ) (s₀ : State) (r : Room) where
           (counted c ∙ omega arith)
           (wind-unrefused forward T₁ r c now)
           (λ x. absurd (never x))
+          (on .carried-is ∙ ap (λ k. carriedOver T₁ s₀ k p) (counted c) ∙ between-up T₁ s₀ (allowed T₁ s₀ r c p) p)
         where
           run : Run
           run = wind forward T₁ r c now
@@ -136,7 +141,7 @@ module _ (w : List ℕ) (n : ℕ) (s₀ : State) (r : Room) where
       back-run : (B : Type 0) (c : ℕ) → Takes B p (p - min c p) (wound r (wind back T₁ r c now))
       back-run B c =
           takes-by-run B p (p - min c p) (wind back T₁ r c now) (off c .trail) (off c .position-is ∙ omega arith) (off c .steps-are ∙ omega arith)
-          (wind-unrefused back T₁ r c now) (λ x. off c .unhindered)
+          (wind-unrefused back T₁ r c now) (λ x. off c .unhindered) (off c .carried-is ∙ between-down T₁ s₀ (min c p) p (p - min c p) (omega arith))
 
       forward-takes : (B : Type 0) → (B → ⊥) → (c : ℕ) → Takes B p (p + allowed T₁ s₀ r c p) (windOf forward (givenTo u n (laidDown r now)) c)
       forward-takes B never c = rw (laid-winds r now fits-now u n accepted-now good-now (b .short-log) (b .short-tape) forward c, table-same) (forward-run B never c)
@@ -253,7 +258,7 @@ module _ (w : List ℕ) (n : ℕ) (s₀ : State) (r : Room) where
             subst (EndsBack (positionOf T₁ s₀ r (back-to v) p)) (sym e)
             (rw (last-none T₁ s₀ r v p unseen)
             (record {
-              takes = takes-by-run Unit p p (ended T₁ now Stop.none) t refl (omega arith) none-unrefused (λ x. tt);
+              takes = takes-by-run Unit p p (ended T₁ now Stop.none) t refl (omega arith) none-unrefused (λ x. tt) (sym (over-none T₁ s₀ p) ∙ between-down T₁ s₀ 0 p p (add-zero p));
               says = record {
                 found-or-none = inr refl;
                 found-last = λ x. absurd (found-not-none (sym x));
@@ -333,7 +338,7 @@ module _ (w : List ℕ) (n : ℕ) (s₀ : State) (r : Room) where
         by-node : (b : Bool) → misses (tableIn w n .nodes) m ≡ b → Owned m p given (outcomeOf m given)
         by-node false e =
             let (taken, said) = own-takes u same p (h .state) (h .trail) m (of-term e) in
-            record { as-own = rw e (rw e (own-call m p (positionOf (tableIn w n) s₀ r m p) (outcomeOf m given) taken), rw e said); stands = rw e (taken .stands) }
+            record { as-own = rw e (rw e (own-call m p (positionOf (tableIn w n) s₀ r m p) (outcomeOf m given) taken), rw e said, rw e (taken .carried-is)); stands = rw e (taken .stands) }
         by-node true e =
             rw (own-missed u same p (h .state) (h .trail) m (of-term e))
             (record { as-own = rw e (refl, as-given 12 given); stands = rw e (record { state = h .state; trail = h .trail; laid = refl }) })

@@ -55,7 +55,7 @@ module _ (way : Way) (T : Table) (r : Room) where
     unfolding wind
     wind-stops x e = rw e
 
-    pub wind-goes-on : (u : Moment) → stopBefore way T r (suc c) m ≡ none → nextBy way T m ≡ some u → (j : ℕ) → wind way T r (suc j) m ≡ longer T m (wind way T r j u)
+    pub wind-goes-on : (u : Moment) → stopBefore way T r (suc c) m ≡ none → nextBy way T m ≡ some u → (j : ℕ) → wind way T r (suc j) m ≡ longer way T m (wind way T r j u)
     unfolding wind
     wind-goes-on u e n j = rw (stop-any way T r j c m ∙ e, n)
 
@@ -86,11 +86,11 @@ module _ (way : Way) (T : Table) (r : Room) where
       seek-stops x e = rw e
 
       module _ (u : Moment) (e : stopBefore way T r (suc c) m ≡ none) (n : nextBy way T m ≡ some u) where
-        pub seek-arrives : isOn v (u .state) ≡ true → seek way T r v (suc c) m ≡ longer T m (ended T u found)
+        pub seek-arrives : isOn v (u .state) ≡ true → seek way T r v (suc c) m ≡ longer way T m (ended T u found)
         unfolding seek
         seek-arrives a = rw (e, n, a)
 
-        pub seek-goes-on : isOn v (u .state) ≡ false → seek way T r v (suc c) m ≡ longer T m (seek way T r v c u)
+        pub seek-goes-on : isOn v (u .state) ≡ false → seek way T r v (suc c) m ≡ longer way T m (seek way T r v c u)
         unfolding seek
         seek-goes-on a = rw (e, n, a)
 
@@ -119,7 +119,7 @@ module _ (way : Way) (T : Table) (r : Room) where
               visit = first-visit c m u e n (on-spot v (u .state) a);
               first = λ j l h. (let g = h .0 in absurd (omega arith));
             })
-            (seek-arrives c m u e n a ∙ sym (ap foundBy (wind-goes-on c m u e n 0 ∙ ap (longer T m) (wind-none u))))
+            (seek-arrives c m u e n a ∙ sym (ap foundBy (wind-goes-on c m u e n 0 ∙ ap (longer way T m) (wind-none u))))
 
         goes-on : (u : Moment) → stopBefore way T r (suc c) m ≡ none → nextBy way T m ≡ some u → isOn v (u .state) ≡ false → Sought way T r v c u (wind way T r c u) (seek way T r v c u)
             → Sought way T r v (suc c) m (wind way T r (suc c) m) (seek way T r v (suc c) m)
@@ -129,9 +129,9 @@ module _ (way : Way) (T : Table) (r : Room) where
               visit = later-visit c m u e n k (f .visit);
               first = λ j l h. no-visit c m u e n j (off-spot v (u .state) a) (λ i same x. f .first i (omega arith) x) h;
             })
-            (seek-goes-on c m u e n a ∙ ap (longer T m) g ∙ sym (ap foundBy (wind-goes-on c m u e n k)))
+            (seek-goes-on c m u e n a ∙ ap (longer way T m) g ∙ sym (ap foundBy (wind-goes-on c m u e n k)))
         goes-on u e n a (unvisited f g) =
-            unvisited (λ k h. no-visit c m u e n k (off-spot v (u .state) a) (λ i same x. f i x) h) (seek-goes-on c m u e n a ∙ ap (longer T m) g ∙ sym (wind-goes-on c m u e n c))
+            unvisited (λ k h. no-visit c m u e n k (off-spot v (u .state) a) (λ i same x. f i x) h) (seek-goes-on c m u e n a ∙ ap (longer way T m) g ∙ sym (wind-goes-on c m u e n c))
 
         by-spot : (u : Moment) → stopBefore way T r (suc c) m ≡ none → nextBy way T m ≡ some u → Sought way T r v c u (wind way T r c u) (seek way T r v c u) → (b : Bool) → isOn v (u .state) ≡ b
             → Sought way T r v (suc c) m (wind way T r (suc c) m) (seek way T r v (suc c) m)

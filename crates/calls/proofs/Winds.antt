@@ -35,7 +35,7 @@ has-next back T r c m e = by-position (m .position) refl
 module _ (way : Way) (T : Table) (r : Room) (P : ℕ → Moment → Run → Type 0)
     (none-left : (m : Moment) → P 0 m (ended T m spent))
     (stops : (c : ℕ) (m : Moment) (x : Stop) → stopBefore way T r (suc c) m ≡ some x → P (suc c) m (ended T m x))
-    (steps : (c : ℕ) (m u : Moment) (run : Run) → stopBefore way T r (suc c) m ≡ none → nextBy way T m ≡ some u → P c u run → P (suc c) m (longer T m run)) where
+    (steps : (c : ℕ) (m u : Moment) (run : Run) → stopBefore way T r (suc c) m ≡ none → nextBy way T m ≡ some u → P c u run → P (suc c) m (longer way T m run)) where
   pub each-run : (c : ℕ) (m : Moment) → P c m (wind way T r c m)
   unfolding wind
   each-run zero m = none-left m

@@ -86,9 +86,9 @@ openingBy none ls ts = record {
 unfoldable pub openOf : List ℕ → ℕ → List ℕ → List ℕ → Opening
 openOf w n ls ts = openingBy (openNumber w n ls ts) ls ts
 
--- "The session is then the one given, steps and peak are 0, and no lent word differs."
+-- "The session is then the one given, steps and peak are 0, and no lent word differs." "Any number that a later call adds to its answer is 0 in a refusal."
 abbrev pub refusedOutcome : ℕ → Given → Outcome
-refusedOutcome k g = record { session = g .session; steps = 0; stop = refused k; peak = 0; log = g .log; tape = g .tape }
+refusedOutcome k g = record { session = g .session; steps = 0; stop = refused k; peak = 0; carried = 0; log = g .log; tape = g .tape }
 
 abbrev pub wound : Room → Run → Outcome
 wound r run = record {
@@ -96,6 +96,7 @@ wound r run = record {
   steps = run .steps;
   stop = run .stop;
   peak = run .peak;
+  carried = run .carried;
   log = logSlice r (run .last);
   tape = tapeSlice r (run .last);
 }

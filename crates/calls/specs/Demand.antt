@@ -1,4 +1,4 @@
--- The third demand of document 01, with the calls that document 02, change 5, adds to its list, as one statement over lists of calls. The theorem is `third-demand` (proofs/Third.antt).
+-- The third demand of document 01, with the calls that document 02, change 5, adds to its list and the sums of its change 6, as one statement over lists of calls. The theorem is `third-demand` (proofs/Third.antt).
 use mathlib.Core.Path.{_≡_}
 use mathlib.Core.Logic.{_⊎_, _↔_}
 use mathlib.Core.Bool.{Bool, true, false}
@@ -11,6 +11,7 @@ use Rattle.term.specs.Choice.{ifSome, choose}
 use Rattle.term.specs.Table.{Table, tableIn}
 use Rattle.term.specs.Accepted.{Accepted}
 use Rattle.machine.specs.Machine.{State, startState, afterFrom}
+use Rattle.machine.specs.Carried.{carriedBetween}
 use Rattle.calls.specs.Session.{Session, Stop, jam, logFull, tapeFull, found, refused, Outcome, Opening, Given}
 use Rattle.calls.specs.Stops.{Way, forward, back, moment, Room, room, stopBefore}
 use Rattle.calls.specs.Calls.{longest, sessionAt, logSlice, tapeSlice, openOf, windOf, goToOf}
@@ -87,13 +88,14 @@ pub record OwnCall (p q : ℕ) (m : Move) (o : Outcome) : Type 0 where
   pub back-log-fits : GoesBack m p → o .stop ≡ logFull → ⊥
   pub back-tape-fits : GoesBack m p → o .stop ≡ tapeFull → ⊥
 
--- A refused call gives back the session and both slices that it was given, word for word, and makes no step.
+-- A refused call gives back the session and both slices that it was given, word for word, makes no step, has no peak and carries nothing.
 pub record RefusedCall (g : Given) (o : Outcome) : Type 0 where
   pub session-is : o .session ≡ g .session
   pub log-is : o .log ≡ g .log
   pub tape-is : o .tape ≡ g .tape
   pub no-steps : o .steps ≡ 0
   pub no-peak : o .peak ≡ 0
+  pub nothing-carried : o .carried ≡ 0
 
 -- The plain machine alone, on the table T with slices of the lengths in r: from a state s₀ at position 0, which is `startState` below.
 module _ (T : Table) (s₀ : State) (r : Room) where
@@ -182,10 +184,14 @@ module _ (T : Table) (s₀ : State) (r : Room) where
     pub log-is : st .log ≡ logSlice r (moment state p)
     pub tape-is : st .tape ≡ tapeSlice r (moment state p)
 
+  -- A call of the list's own that is no 12: as above, and "the sum is that of the plain machine's steps" (document 02, change 6), which are those between p and the new p.
+  abbrev pub AsWound : Move → ℕ → Outcome → Type 0
+  AsWound m p o = OwnCall p (positionBy m p) m o × Says m p (positionBy m p) (o .stop) × (o .carried ≡ carriedBetween T s₀ p (positionBy m p))
+
   -- A call of the list's own, given g: a 12, which gives back what stood, or as above.
   abbrev pub AsOwn : Bool → Move → ℕ → Given → Outcome → Type 0
   AsOwn true m p g o = (o .stop ≡ refused 12) × RefusedCall g o
-  AsOwn false m p g o = OwnCall p (positionBy m p) m o × Says m p (positionBy m p) (o .stop)
+  AsOwn false m p g o = AsWound m p o
 
   abbrev pub AsDemanded : ℕ → ℕ → Standing → Call → Type 0
   AsDemanded n p st (own m u) = AsOwn (misses (T .nodes) m) m p (givenTo u n st) (outcomeOf m (givenTo u n st))

@@ -18,12 +18,13 @@ pub data Stop : Type 0 where
   answer : ℕ → Stop
   refused : ℕ → Stop
 
--- What the calls that wind answer, "the session, the steps made, the stop, and the peak", and both slices after the call.
+-- What the calls that wind answer, "the session, the steps made, the stop, and the peak", the sum of the words carried (document 02, change 6), and both slices after the call.
 pub record Outcome : Type 0 where
   pub session : Session
   pub steps : ℕ
   pub stop : Stop
   pub peak : ℕ
+  pub carried : ℕ
   pub log : List ℕ
   pub tape : List ℕ
 

@@ -43,7 +43,7 @@ seek way T r v (suc count) m =
     ifSome (stopBefore way T r (suc count) m)
     (λ x. ended T m x)
     (λ _. ifSome (nextBy way T m)
-    (λ u. longer T m (choose (isOn v (u .state)) (λ _. ended T u found) (λ _. seek way T r v count u)))
+    (λ u. longer way T m (choose (isOn v (u .state)) (λ _. ended T u found) (λ _. seek way T r v count u)))
     (λ _. ended T m jam))
 
 abbrev pub isFound : Stop → Bool
@@ -59,7 +59,7 @@ isFound (answer i) = false
 isFound (refused k) = false
 
 -- "Winding back, the call ends there with the new stop found, or says none": position-many steps lead to position 0, and every other end of the search is none, "a jam or a full slice" too.
--- None stands where the call began, makes no step and has "the present state's own peak"; that it "gives back the session and slices it got" is `none-gives-back` (proofs/BackTrip.antt).
+-- None stands where the call began, makes no step, has "the present state's own peak" and carries nothing, whatever the search carried; that it "gives back the session and slices it got" is `none-gives-back` (proofs/BackTrip.antt).
 abbrev pub foundOrNone : Table → Moment → Run → Run
 foundOrNone T m run = choose (isFound (run .stop)) (λ _. run) (λ _. ended T m Stop.none)
 
@@ -91,7 +91,7 @@ pub record FirstVisit (way : Way) (T : Table) (r : Room) (v : Spot) (count : ℕ
 
 -- a run that ends where it ended, as found
 abbrev pub foundBy : Run → Run
-foundBy run = record { last = run .last; steps = run .steps; stop = found; peak = run .peak }
+foundBy run = record { last = run .last; steps = run .steps; stop = found; peak = run .peak; carried = run .carried }
 
 -- The run "ends as found at the first such position after the present that forward by that count reaches, else" as another does: forward by that count, and back none.
 pub data Sought (way : Way) (T : Table) (r : Room) (v : Spot) (count : ℕ) (m : Moment) (otherwise run : Run) : Type 0 where

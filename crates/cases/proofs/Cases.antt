@@ -8,6 +8,7 @@ use Rattle.text.specs.Parse.{phraseAt, parse}
 use Rattle.text.specs.Binding.{indexOf, nameless}
 use Rattle.text.specs.Reading.{meant, readerNumber, readOf}
 use Rattle.machine.specs.Machine.{goDown, goUp, stepBy, afterFrom}
+use Rattle.machine.specs.Carried.{carriedDown, carriedUp, carriedFrom}
 use Rattle.machine.specs.Slice.{slice, putOnLog, readLog, putOnTape, readTape, allZero}
 use Rattle.calls.specs.Stops.{stopBefore}
 use Rattle.calls.specs.Digits.{digitsIn, digits}
@@ -21,6 +22,6 @@ pub cases-hold : cases ≡ results
 unfolding exampleText identityText openText example exampleTable identity fresh afterwards stranded states withStates cases sessionMade leaf stoodAt results
     rowsOf tableOf tableIn kindOf placeUnder partBy partAt accepted
     classOf pieces phraseAt parse indexOf nameless meant readerNumber readOf
-    goDown goUp stepBy afterFrom slice putOnLog readLog putOnTape readTape allZero
+    goDown goUp stepBy afterFrom carriedDown carriedUp carriedFrom slice putOnLog readLog putOnTape readTape allZero
     stopBefore digitsIn digits weight wind wellFormed stateIn lentNumber callNumber openOf windOf goToOf
 cases-hold = refl

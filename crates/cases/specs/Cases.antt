@@ -125,23 +125,24 @@ results =
     ∷ arity-of 1
     ∷ arity-of 0
     -- T2 forward 100 with slices of 2 and 2: 12 steps, answer 6. Document 02, change 2: "T2's peak becomes 6: two positions, n = 7, X = 3."
-    ∷ call (record { session = sessionMade 6 down 12 2 0; steps = 12; stop = answer 6; peak = 6; log = 7 ∷ 5 ∷ []; tape = 0 ∷ 0 ∷ [] })
+    -- Change 6: step by step it carries 0, 0, 0, 0, 1, 0, 0, 1, 0, 1, 1 and 2 words, by rules 6, 8, 6, 3 and 6 where it is not 0. T8 takes the last eight back.
+    ∷ call (record { session = sessionMade 6 down 12 2 0; steps = 12; stop = answer 6; peak = 6; carried = 6; log = 7 ∷ 5 ∷ []; tape = 0 ∷ 0 ∷ [] })
     -- T3 tape of 1: 3 steps, tape full
-    ∷ call (record { session = sessionMade 4 down 3 0 1; steps = 3; stop = tapeFull; peak = 1; log = 0 ∷ 0 ∷ []; tape = 0 ∷ [] })
+    ∷ call (record { session = sessionMade 4 down 3 0 1; steps = 3; stop = tapeFull; peak = 1; carried = 0; log = 0 ∷ 0 ∷ []; tape = 0 ∷ [] })
     -- T4 log of 1, tape of 2: 11, log full
-    ∷ call (record { session = sessionMade 2 up 11 0 2; steps = 11; stop = logFull; peak = 6; log = 0 ∷ []; tape = 7 ∷ 5 ∷ [] })
+    ∷ call (record { session = sessionMade 2 up 11 0 2; steps = 11; stop = logFull; peak = 6; carried = 4; log = 0 ∷ []; tape = 7 ∷ 5 ∷ [] })
     -- T5 forward 12: 12, spent
-    ∷ call (record { session = sessionMade 6 down 12 2 0; steps = 12; stop = spent; peak = 6; log = 7 ∷ 5 ∷ []; tape = 0 ∷ 0 ∷ [] })
+    ∷ call (record { session = sessionMade 6 down 12 2 0; steps = 12; stop = spent; peak = 6; carried = 6; log = 7 ∷ 5 ∷ []; tape = 0 ∷ 0 ∷ [] })
     -- T6 forward 0: 0, spent
-    ∷ call (record { session = sessionMade 1 down 0 0 0; steps = 0; stop = spent; peak = 0; log = 0 ∷ 0 ∷ []; tape = 0 ∷ 0 ∷ [] })
+    ∷ call (record { session = sessionMade 1 down 0 0 0; steps = 0; stop = spent; peak = 0; carried = 0; log = 0 ∷ 0 ∷ []; tape = 0 ∷ 0 ∷ [] })
     -- T7 back 1 when fresh: 0, start
-    ∷ call (record { session = sessionMade 1 down 0 0 0; steps = 0; stop = start; peak = 0; log = 0 ∷ 0 ∷ []; tape = 0 ∷ 0 ∷ [] })
+    ∷ call (record { session = sessionMade 1 down 0 0 0; steps = 0; stop = start; peak = 0; carried = 0; log = 0 ∷ 0 ∷ []; tape = 0 ∷ 0 ∷ [] })
     -- T8 from 12 go to 4: node 2, up, tape [4,0]
-    ∷ call (record { session = sessionMade 2 up 4 0 2; steps = 8; stop = spent; peak = 6; log = 0 ∷ 0 ∷ []; tape = 0 ∷ 4 ∷ [] })
+    ∷ call (record { session = sessionMade 2 up 4 0 2; steps = 8; stop = spent; peak = 6; carried = 6; log = 0 ∷ 0 ∷ []; tape = 0 ∷ 4 ∷ [] })
     -- T9 node 2, down, tape [7], forward 1: jam
-    ∷ call (record { session = sessionMade 2 down 0 0 1; steps = 0; stop = jam; peak = 3; log = 0 ∷ 0 ∷ []; tape = 7 ∷ 0 ∷ [] })
+    ∷ call (record { session = sessionMade 2 down 0 0 1; steps = 0; stop = jam; peak = 3; carried = 0; log = 0 ∷ 0 ∷ []; tape = 7 ∷ 0 ∷ [] })
     -- T10 `\x.x`: answer 1 in 0 steps
-    ∷ call (record { session = sessionMade 1 down 0 0 0; steps = 0; stop = answer 1; peak = 0; log = 0 ∷ 0 ∷ []; tape = 0 ∷ 0 ∷ [] })
+    ∷ call (record { session = sessionMade 1 down 0 0 0; steps = 0; stop = answer 1; peak = 0; carried = 0; log = 0 ∷ 0 ∷ []; tape = 0 ∷ 0 ∷ [] })
     -- T11 empty text: 4
     ∷ reading (record { n = 0; refusal = 4; table = 9 ∷ 9 ∷ 9 ∷ 9 ∷ 9 ∷ [] })
     -- T12 `x`: 5

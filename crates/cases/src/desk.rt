@@ -26,6 +26,7 @@ pub(crate) struct Desk {
     pub(crate) stop: usize,
     pub(crate) number: u32,
     pub(crate) peak: u32,
+    pub(crate) carried: u64,
 }
 
 pub(crate) fn cleared(text: usize) -> Desk {
@@ -47,6 +48,7 @@ pub(crate) fn cleared(text: usize) -> Desk {
         stop: 0,
         number: 0,
         peak: 0,
+        carried: 0,
     }
 }
 
@@ -93,6 +95,7 @@ pub(crate) fn with_outcome(desk: Desk, o: Outcome) -> Desk {
     d.stop = stop_place(x);
     d.number = stop_number(x);
     d.peak = o.peak;
+    d.carried = o.carried;
     d
 }
 

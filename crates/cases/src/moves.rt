@@ -31,6 +31,7 @@ fn as_outcome(o: Opening) -> Outcome {
         steps: 0,
         stop: Stop::Refused(o.refusal),
         peak: 0,
+        carried: 0,
     }
 }
 

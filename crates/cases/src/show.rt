@@ -10,10 +10,15 @@ pub(crate) fn show(bytes: &[u8]) {
     let _whole = io::write_all(1, bytes);
 }
 
+// A label and a sum of words carried.
+fn show_sum(label: &[u8], n: u64) {
+    show(label);
+    let _whole = io::print_decimal(1, n);
+}
+
 // A label and a number.
 pub(crate) fn show_number(label: &[u8], n: u32) {
-    show(label);
-    let _whole = io::print_decimal(1, n as u64);
+    show_sum(label, n as u64);
 }
 
 // A line that is no command, or one that asks for too much.
@@ -122,12 +127,13 @@ fn show_stop(place: usize, number: u32) {
     }
 }
 
-// The session after a call, the steps, the stop and the peak.
+// The session after a call, the steps, the stop, the peak and the words carried.
 fn show_answer(d: Desk) {
     show_session(d);
     show_number(b" steps ", d.steps);
     show_stop(d.stop, d.number);
     show_number(b" peak ", d.peak);
+    show_sum(b" carried ", d.carried);
 }
 
 // What the call of a row answered; open has no stop; of a walk back also how many states agreed.

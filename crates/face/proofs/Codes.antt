@@ -120,6 +120,7 @@ outcomes-injective o p h = λ i. record {
   steps = h i .0 .steps;
   stop = codes-injective (o .stop) (p .stop) (λ j. h j .0 .stop) (λ j. h j .0 .value) i;
   peak = h i .0 .peak;
+  carried = h i .0 .carried;
   log = h i .1;
   tape = h i .2;
 }

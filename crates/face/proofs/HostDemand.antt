@@ -37,7 +37,7 @@ module _ (T : Table) (s₀ : State) (r : Room) (n : ℕ) where
 
   told-own : (m : Move) (p : ℕ) (u : List ℕ) (st : Standing) (b : Bool) → AsOwn T s₀ r b m p (givenTo u n st) (outcomeOf m (givenTo u n st))
       → ToldAsOwn T s₀ r b m p (keptOf st) (answerTo m u n (keptOf st))
-  told-own m p u st false d = (outcomeOf m (givenTo u n st), d .0, d .1, answered m u n st)
+  told-own m p u st false d = (outcomeOf m (givenTo u n st), d, answered m u n st)
   told-own m p u st true d = answered m u n st ∙ refused-told 12 (d .0) (d .1)
 
   told-demanded : (w : List ℕ) (cs : List HostCall) (p : ℕ) (st : Standing) → AllPermittedCalls w n cs → Demanded T s₀ r n (owns cs) p st

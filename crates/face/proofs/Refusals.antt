@@ -70,6 +70,7 @@ refused-told k e h = λ i. (
     value = stopValue (e i);
     value2 = 0;
     peak = h .no-peak i;
+    carried = h .nothing-carried i;
   },
   h .log-is i,
   h .tape-is i,

@@ -12,7 +12,7 @@ use Rattle.calls.specs.Session.{Outcome}
 use Rattle.calls.specs.Stops.{Room, room}
 use Rattle.calls.specs.Calls.{longest, openOf}
 use Rattle.calls.specs.Demand
-use Rattle.calls.specs.Demand.{Move, outcomeOf, Permitted, Standing, misses, OwnCall, positionBy, Says, AsPlain}
+use Rattle.calls.specs.Demand.{Move, outcomeOf, Permitted, Standing, misses, positionBy, AsPlain, AsWound}
 use Rattle.face.specs.declared.HostSession.{HostSession}
 use Rattle.face.specs.declared.HostOpening.{HostOpening}
 use Rattle.face.specs.declared.HostOutcome.{HostOutcome}
@@ -69,7 +69,7 @@ module _ (T : Table) (s₀ : State) (r : Room) where
   -- A call of the list's own tells a 12, or an outcome as the third demand has it; a refused one gives back what it was handed.
   abbrev pub ToldAsOwn : Bool → Move → ℕ → Kept → HostOutcome × List ℕ × List ℕ → Type 0
   ToldAsOwn true m p h a = a ≡ refusedTold 12 (h .session) (h .log) (h .tape)
-  ToldAsOwn false m p h a = (o : Outcome) × OwnCall p (positionBy T s₀ r m p) m o × Says T s₀ r m p (positionBy T s₀ r m p) (o .stop) × (a ≡ outcomeTold o)
+  ToldAsOwn false m p h a = (o : Outcome) × AsWound T s₀ r m p o × (a ≡ outcomeTold o)
 
   abbrev pub ToldAsDemanded : ℕ → ℕ → Kept → HostCall → Type 0
   ToldAsDemanded n p h (own m u) = ToldAsOwn (misses (T .nodes) m) m p h (answerTo m u n h)

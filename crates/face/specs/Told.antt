@@ -28,7 +28,7 @@ openTold o = (record { session = sessionNumbers (o .session); refusal = o .refus
 -- An outcome with these numbers as its session (no stop has a second value),
 abbrev pub toldWith : HostSession → Outcome → HostOutcome × List ℕ × List ℕ
 toldWith s o = (
-  record { session = s; steps = o .steps; stop = stopCode (o .stop); value = stopValue (o .stop); value2 = 0; peak = o .peak },
+  record { session = s; steps = o .steps; stop = stopCode (o .stop); value = stopValue (o .stop); value2 = 0; peak = o .peak; carried = o .carried },
   o .log,
   o .tape,
 )
@@ -39,7 +39,7 @@ outcomeTold o = toldWith (sessionNumbers (o .session)) o
 
 -- A refusal gives the numbers back as they were given, and nothing is done.
 abbrev pub refusedTold : ℕ → HostSession → List ℕ → List ℕ → HostOutcome × List ℕ × List ℕ
-refusedTold k s ls ts = (record { session = s; steps = 0; stop = 7; value = k; value2 = 0; peak = 0 }, ls, ts)
+refusedTold k s ls ts = (record { session = s; steps = 0; stop = 7; value = k; value2 = 0; peak = 0; carried = 0 }, ls, ts)
 
 -- Numbers that stand for no session are refused with 9, after 7 and 8.
 abbrev pub noSessionNumber : List ℕ → ℕ → List ℕ → List ℕ → ℕ

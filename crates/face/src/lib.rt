@@ -33,6 +33,7 @@ pub struct HostOpening {
 
 // What the calls that wind answer. Stop: 0 spent, 1 answer, 2 jam, 3 far, 4 start, 5 log full, 6 tape full, 7 refused, 8 found, 9 none.
 // Value: the answer's node, the refusal's number, or 0; no stop has a second value. Peak: the greatest weight over the states stood in, in bits.
+// Carried: how many words the steps moved between log and tape.
 #[repr(C)]
 pub struct HostOutcome {
     pub session: HostSession,
@@ -41,6 +42,7 @@ pub struct HostOutcome {
     pub value: u32,
     pub value2: u32,
     pub peak: u32,
+    pub carried: u64,
 }
 
 // What top answers: where the part lies in the lent slice, the index of its first word and how many words it has. Both are 0 in a refusal.

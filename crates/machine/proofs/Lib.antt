@@ -6,6 +6,8 @@ pub mod Rules
 pub mod Led
 pub mod Reverse
 pub mod Lengths
+pub mod Carried
+pub mod Sums
 pub mod Load
 pub mod Read
 pub mod Beyond

@@ -1,8 +1,8 @@
--- Log and tape in the slices that a session stands on, and where a step leads: if its lists lie in the slices, the token stands there.
+-- Log and tape in the slices that a session stands on, and where a step leads: if its lists lie in the slices, the token stands there, and the step carried the words by which the log grew or shrank.
 use mathlib.Core.Path.{_≡_, refl, ap, _∙_}
 use mathlib.Core.Option.{some}
 use mathlib.Core.List.{List}
-use Prim.Native.Nat.{ℕ, _≤_}
+use Prim.Native.Nat.{ℕ, _+_, _-_, _≤_}
 use native.Mathlib.Omega.{arith}
 use lib.ListN.{length}
 use Rattle.term.specs.Table.{tableIn}
@@ -11,6 +11,7 @@ use Rattle.machine.specs.Entries.{Log, Tape, logWords, tapeWords}
 use Rattle.machine.specs.Machine.{State, state, step}
 use Rattle.machine.specs.Slice.{slice}
 use Rattle.machine.proofs.Reverse.{keeps-good}
+use Rattle.machine.proofs.Carried.{carried-change}
 use Rattle.session.specs.Types.{dirMeant}
 use Rattle.session.specs.Steps.{TokenAt, StepIs}
 use Rattle.session.specs.declared.Dir.{Dir}
@@ -35,19 +36,21 @@ module _ {w : List ℕ} {n : ℕ} {se : Declared.Session} {ls ts : List ℕ} {s 
   }
 
 -- where a step leads
-abbrev pub arrival : ℕ → Dir → ℕ → ℕ → Arrived.Arrival
-arrival j d l m = record { node = j; dir = d; «log_len» = l; «tape_len» = m }
+abbrev pub arrival : ℕ → Dir → ℕ → ℕ → ℕ → Arrived.Arrival
+arrival j d l m k = record { node = j; dir = d; «log_len» = l; «tape_len» = m; carried = k }
 
 pub arrives : {w : List ℕ} {n : ℕ} {se : Declared.Session} {ls ts : List ℕ} {s : State} → TokenAt w n se ls ts s
     → (j : ℕ) (d : Dir) (L : Log) (t : Tape) → step (tableIn w n) s ≡ some (state j (dirMeant d) L t)
     → (l m : ℕ) → l ≡ length (logWords L) → m ≡ length (tapeWords t) → l ≤ length ls → m ≤ length ts
+    → (k : ℕ) → k ≡ (l - se .«log_len») + (se .«log_len» - l)
     → (ls′ ts′ : List ℕ) → ls′ ≡ slice (length ls) (logWords L) → ts′ ≡ slice (length ts) (tapeWords t)
-    → StepIs w n se ls ts s (Made (arrival j d l m)) ls′ ts′
-arrives {w} {n} {se} {ls} {ts} {s} h j d L t e l m l-is m-is l-fits m-fits ls′ ts′ log-lies tape-lies =
+    → StepIs w n se ls ts s (Made (arrival j d l m k)) ls′ ts′
+arrives {w} {n} {se} {ls} {ts} {s} h j d L t e l m l-is m-is l-fits m-fits k k-is ls′ ts′ log-lies tape-lies =
     let log-in = lies-in (length ls) (logWords L) ls′ (omega arith) log-lies in
     let tape-in = lies-in (length ts) (tapeWords t) ts′ (omega arith) tape-lies in
     let log-short : length ls ≤ 16384 = h .enters .short-log in
-    let tape-short : length ts ≤ 16384 = h .enters .short-tape in (
+    let tape-short : length ts ≤ 16384 = h .enters .short-tape in
+    let long : se .«log_len» ≡ length (logWords (s .log)) = h .enters .holds .log-length in (
       state j (dirMeant d) L t,
       e,
       record {
@@ -68,4 +71,5 @@ arrives {w} {n} {se} {ls} {ts} {s} h j d L t e l m l-is m-is l-fits m-fits ls′
           };
         };
       },
+      omega (arith, carried-change (tableIn w n) s (state j (dirMeant d) L t) e),
     )

@@ -23,11 +23,11 @@ bullet-counted h t on-top = omega (arith, h .enters .holds .tape-length ∙ ap (
 
 module _ {w : List ℕ} {n : ℕ} {se : Declared.Session} {ls ts : List ℕ} {s : State} (h : TokenAt w n se ls ts s) (j : ℕ) (d : Dir) where
   module _ (e : step (tableIn w n) s ≡ some (state j (dirMeant d) (s .log) (bullet ∷ s .tape))) where
-    pub bullet-comes : se .«tape_len» < length ts → StepIs w n se ls ts s (Made (arrival j d (se .«log_len») (se .«tape_len» + 1))) ls ts
+    pub bullet-comes : se .«tape_len» < length ts → StepIs w n se ls ts s (Made (arrival j d (se .«log_len») (se .«tape_len» + 1) 0)) ls ts
     bullet-comes r =
         let many : se .«tape_len» ≡ length (tapeWords (s .tape)) = h .enters .holds .tape-length in
         arrives h j d (s .log) (bullet ∷ s .tape) e (se .«log_len») (se .«tape_len» + 1) (h .enters .holds .log-length) (omega arith) (h .enters .holds .log-fits) (omega arith)
-        ls ts (h .enters .holds .log-lies) (h .enters .holds .tape-lies ∙ sym (zero-above (length ts) (tapeWords (s .tape)) (omega arith)))
+        0 (omega arith) ls ts (h .enters .holds .log-lies) (h .enters .holds .tape-lies ∙ sym (zero-above (length ts) (tapeWords (s .tape)) (omega arith)))
 
     pub bullet-over : length ts ≤ se .«tape_len» → StepIs w n se ls ts s TapeFull ls ts
     bullet-over r =
@@ -36,10 +36,10 @@ module _ {w : List ℕ} {n : ℕ} {se : Declared.Session} {ls ts : List ℕ} {s 
         (state j (dirMeant d) (s .log) (bullet ∷ s .tape), e, omega (arith, h .enters .holds .log-length), omega arith, refl, refl)
 
   pub bullet-goes : (t : Tape) → s .tape ≡ bullet ∷ t → step (tableIn w n) s ≡ some (state j (dirMeant d) (s .log) t)
-      → StepIs w n se ls ts s (Made (arrival j d (se .«log_len») (se .«tape_len» - 1))) ls ts
+      → StepIs w n se ls ts s (Made (arrival j d (se .«log_len») (se .«tape_len» - 1) 0)) ls ts
   bullet-goes t on-top e =
       let many : se .«tape_len» ≡ suc (length (tapeWords t)) = h .enters .holds .tape-length ∙ ap (λ u. length (tapeWords u)) on-top in
       let fits : se .«tape_len» ≤ length ts = h .enters .holds .tape-fits in
       arrives h j d (s .log) t e (se .«log_len») (se .«tape_len» - 1) (h .enters .holds .log-length) (omega arith) (h .enters .holds .log-fits) (omega arith)
-      ls ts (h .enters .holds .log-lies)
+      0 (omega arith) ls ts (h .enters .holds .log-lies)
       (h .enters .holds .tape-lies ∙ ap (λ u. slice (length ts) (tapeWords u)) on-top ∙ zero-above (length ts) (tapeWords t) (omega arith))

@@ -8,9 +8,11 @@ use lib.ListN.{length}
 use Rattle.term.specs.Table.{Table, tableIn}
 use Rattle.machine.specs.Entries.{tapeWords}
 use Rattle.machine.specs.Machine.{State, turned, step}
+use Rattle.machine.specs.Carried.{carried}
 use Rattle.machine.proofs.Reverse.{turn-good}
 use Rattle.calls.specs.Session.{Session}
 use Rattle.calls.specs.Stops.{Way, forward, back, moment, logSize, tapeSize, nextBy}
+use Rattle.calls.specs.Winding.{carriedBy}
 use Rattle.calls.specs.Held.{Holds}
 use Rattle.session.specs.Types.{sessionMeant}
 use Rattle.session.specs.Steps.{TokenAt}
@@ -92,3 +94,8 @@ pub next-facing : (way : Way) (T : Table) (s u : State) (se : Session) → step 
     → nextBy way T (moment s (se .position)) ≡ some (moment (facing way u) (sessionAfter way se .position))
 next-facing forward T s u se e = rw e (ap (λ p. some (moment u p)) (sym (add-one (se .position))))
 next-facing back T s u se e = rw e refl
+
+-- and carries what the step from the turned state does
+pub carried-facing : (way : Way) (T : Table) (s : State) → carried T (facing way s) ≡ carriedBy way T s
+carried-facing forward T s = refl
+carried-facing back T s = refl

@@ -39,12 +39,12 @@ module _ {w : List ℕ} {n : ℕ} {se : Declared.Session} {ls ts : List ℕ} {s 
   module _ (j : ℕ) (d : Dir) {L : Log} {t : Tape} (e : step (tableIn w n) s ≡ some (state j (dirMeant d) L t)) (xs : List ℕ) where
     log-gains : logWords L ≡ xs ++ logWords (s .log) → (k m : ℕ) → k ≡ length xs → k ≤ length ls - se .«log_len» → m ≡ length (tapeWords t) → m ≤ length ts
         → (ls′ ts′ : List ℕ) → ls′ ≡ slice (length ls) (xs ++ logWords (s .log)) → ts′ ≡ slice (length ts) (tapeWords t)
-        → StepIs w n se ls ts s (Made (arrival j d (se .«log_len» + k) m)) ls′ ts′
+        → StepIs w n se ls ts s (Made (arrival j d (se .«log_len» + k) m k)) ls′ ts′
     log-gains on k m k-is room m-is fits ls′ ts′ lies-l lies-t =
         let many = log-lies .many in
         let below = log-lies .fits in
         let grown : se .«log_len» + k ≡ length (logWords L) = omega (arith, ap length on, length-append xs (logWords (s .log))) in
-        arrives h j d L t e (se .«log_len» + k) m grown m-is (omega arith) fits ls′ ts′ (lies-l ∙ ap (slice (length ls)) (sym on)) lies-t
+        arrives h j d L t e (se .«log_len» + k) m grown m-is (omega arith) fits k (omega arith) ls′ ts′ (lies-l ∙ ap (slice (length ls)) (sym on)) lies-t
 
     log-lacks : logWords L ≡ xs ++ logWords (s .log) → length (partFrom (se .«log_len») ls) < length xs → (part ts′ : List ℕ) → part ≡ partFrom (se .«log_len») ls → ts′ ≡ ts
         → StepIs w n se ls ts s LogFull (withPart (se .«log_len») ls part) ts′
@@ -56,13 +56,14 @@ module _ {w : List ℕ} {n : ℕ} {se : Declared.Session} {ls ts : List ℕ} {s 
         (state j (dirMeant d) L t, e, over, ap (withPart (se .«log_len») ls) same-part ∙ put-same (se .«log_len») (length ls - se .«log_len») ls, same-tape)
 
     tape-gains : tapeWords t ≡ xs ++ tapeWords (s .tape) → (l k : ℕ) → k ≡ length xs → k ≤ length ts - se .«tape_len» → l ≡ length (logWords L) → l ≤ length ls
+        → (c : ℕ) → c ≡ (l - se .«log_len») + (se .«log_len» - l)
         → (ls′ ts′ : List ℕ) → ls′ ≡ slice (length ls) (logWords L) → ts′ ≡ slice (length ts) (xs ++ tapeWords (s .tape))
-        → StepIs w n se ls ts s (Made (arrival j d l (se .«tape_len» + k))) ls′ ts′
-    tape-gains on l k k-is room l-is fits ls′ ts′ lies-l lies-t =
+        → StepIs w n se ls ts s (Made (arrival j d l (se .«tape_len» + k) c)) ls′ ts′
+    tape-gains on l k k-is room l-is fits c c-is ls′ ts′ lies-l lies-t =
         let many = tape-lies .many in
         let below = tape-lies .fits in
         let grown : se .«tape_len» + k ≡ length (tapeWords t) = omega (arith, ap length on, length-append xs (tapeWords (s .tape))) in
-        arrives h j d L t e l (se .«tape_len» + k) l-is grown fits (omega arith) ls′ ts′ lies-l (lies-t ∙ ap (slice (length ts)) (sym on))
+        arrives h j d L t e l (se .«tape_len» + k) l-is grown fits (omega arith) c c-is ls′ ts′ lies-l (lies-t ∙ ap (slice (length ts)) (sym on))
 
     tape-lacks : tapeWords t ≡ xs ++ tapeWords (s .tape) → length (partFrom (se .«tape_len») ts) < length xs → length (logWords L) ≤ length ls
         → (ls′ part : List ℕ) → ls′ ≡ ls → part ≡ partFrom (se .«tape_len») ts
@@ -106,7 +107,7 @@ module _ {w : List ℕ} {n : ℕ} {se : Declared.Session} {ls ts : List ℕ} {s 
     entry-3 = ap (λ v. v ∷ (logWords inner ++ tapeWords (s .tape))) (sym (h .enters .holds .node-is))
 
     pub made-3 : (k : ℕ) (ls′ part : List ℕ) → MakerIs (tableIn w n) ls (se .«log_len») a (se .node) (partFrom (se .«tape_len») ts) (Moved k) ls′ part
-        → StepIs w n se ls ts s (Made (arrival j Up (se .«log_len» - k) (se .«tape_len» + k + 1))) ls′ (withPart (se .«tape_len») ts part)
+        → StepIs w n se ls ts s (Made (arrival j Up (se .«log_len» - k) (se .«tape_len» + k + 1) k)) ls′ (withPart (se .«tape_len») ts part)
     unfolding inner left-3
     made-3 k ls′ part i =
         let (k-is, few, room, left, came) = i in
@@ -116,8 +117,8 @@ module _ {w : List ℕ} {n : ℕ} {se : Declared.Session} {ls ts : List ℕ} {s 
         let many = log-lies .many in
         let count = found .count in
         let one-more : se .«tape_len» + (k + 1) ≡ se .«tape_len» + k + 1 = omega arith in
-        subst (λ m. StepIs w n se ls ts s (Made (arrival j Up (se .«log_len» - k) m)) ls′ (withPart (se .«tape_len») ts part)) one-more
-        (tape-gains j Up (f .1) (se .node ∷ logWords inner) entry-3 (se .«log_len» - k) (k + 1) (omega arith) (omega arith) (fewer found) (omega arith) ls′ _
+        subst (λ m. StepIs w n se ls ts s (Made (arrival j Up (se .«log_len» - k) m k)) ls′ (withPart (se .«tape_len») ts part)) one-more
+        (tape-gains j Up (f .1) (se .node ∷ logWords inner) entry-3 (se .«log_len» - k) (k + 1) (omega arith) (omega arith) (fewer found) (omega arith) k (omega arith) ls′ _
         (left ∙ words-left (length ls - length (logWords (s .log))) found (omega arith))
         (ap (withPart (se .«tape_len») ts) came ∙ entry-came found tape-lies (se .node) (omega arith)))
 
@@ -159,7 +160,7 @@ module _ {w : List ℕ} {n : ℕ} {se : Declared.Session} {ls ts : List ℕ} {s 
           (k-is ∙ ap (spanBelow (tableIn w n) ts (se .«tape_len» - 1)) (a-is ∙ sym (good-4 .1)))
 
       pub made-4 : (k : ℕ) (ts′ part : List ℕ) → MoverIs (tableIn w n) ts (se .«tape_len» - 1) a (partFrom (se .«log_len») ls) (Moved k) ts′ part
-          → StepIs w n se ls ts s (Made (arrival j Up (se .«log_len» + k) (se .«tape_len» - 1 - k))) (withPart (se .«log_len») ls part) (set ts′ (se .«tape_len» - 1) 0)
+          → StepIs w n se ls ts s (Made (arrival j Up (se .«log_len» + k) (se .«tape_len» - 1 - k) k)) (withPart (se .«log_len») ls part) (set ts′ (se .«tape_len» - 1) 0)
       made-4 k ts′ part i =
           let (k-is, few, room, moved) = i in
           let found = found-4 k-is in
@@ -186,13 +187,13 @@ module _ {w : List ℕ} {n : ℕ} {se : Declared.Session} {ls ts : List ℕ} {s 
 
     pub moved-6 : (ends : ListEnds) (ls′ ts′ : List ℕ) → TopMoved (tableIn w n) ts (se .«tape_len») ls (se .«log_len») ends ts′ ls′
         → StepIs w n se ls ts s (ontoLog j ends) ls′ ts′
-    moved-6 (At left came) ls′ ts′ i =
-        let (k, part, (k-is, few, room, moved), left-is, came-is, back) = i in
+    moved-6 (At left came k) ls′ ts′ i =
+        let (part, (k-is, few, room, moved), left-is, came-is, back) = i in
         let found = found-6 k-is in
         let many = found .stacked .many in
         let there = log-room in
         let fits = tape-lies .fits in
-        subst (λ l. StepIs w n se ls ts s (Made (arrival j Down l left)) ls′ ts′) (sym came-is)
+        subst (λ l. StepIs w n se ls ts s (Made (arrival j Down l left k)) ls′ ts′) (sym came-is)
         (log-gains j Down (f .3) (entryWords (f .0)) refl k left (found .count) (omega arith) (left-is ∙ fewer found) (omega arith) ls′ ts′
         (back ∙ ap (withPart (se .«log_len») ls) (moved .came) ∙ words-came found log-lies (omega arith))
         (moved .left ∙ words-left (length ts - length (entryWords (f .0) ++ tapeWords (f .1))) found (omega arith)))
@@ -210,14 +211,14 @@ module _ {w : List ℕ} {n : ℕ} {se : Declared.Session} {ls ts : List ℕ} {s 
 
     pub moved-8 : (ends : ListEnds) (ls′ ts′ : List ℕ) → TopMoved (tableIn w n) ls (se .«log_len») ts (se .«tape_len») ends ls′ ts′
         → StepIs w n se ls ts s (ontoTape j ends) ls′ ts′
-    moved-8 (At left came) ls′ ts′ i =
-        let (k, part, (k-is, few, room, moved), left-is, came-is, back) = i in
+    moved-8 (At left came k) ls′ ts′ i =
+        let (part, (k-is, few, room, moved), left-is, came-is, back) = i in
         let found = found-8 k-is in
         let many = found .stacked .many in
         let there = tape-room in
         let fits = log-lies .fits in
-        subst (λ m. StepIs w n se ls ts s (Made (arrival j Down left m)) ls′ ts′) (sym came-is)
-        (tape-gains j Down (f .3) (entryWords (f .0)) refl left k (found .count) (omega arith) (left-is ∙ fewer found) (omega arith) ls′ ts′
+        subst (λ m. StepIs w n se ls ts s (Made (arrival j Down left m k)) ls′ ts′) (sym came-is)
+        (tape-gains j Down (f .3) (entryWords (f .0)) refl left k (found .count) (omega arith) (left-is ∙ fewer found) (omega arith) k (omega arith) ls′ ts′
         (moved .left ∙ words-left (length ls - length (entryWords (f .0) ++ logWords (f .1))) found (omega arith))
         (back ∙ ap (withPart (se .«tape_len») ts) (moved .came) ∙ words-came found tape-lies (omega arith)))
     moved-8 ListEnds.NoRoom ls′ ts′ i =

@@ -27,7 +27,7 @@ use Rattle.session.specs.declared.rules.Arrival as Arrived
 use Rattle.session.specs.declared.rules.Stepped.the-variants as Steps
 use Rattle.session.specs.declared.winding.Before.the-variants.{Ends, Makes}
 use Rattle.session.specs.declared.winding.Pass.the-variants.{On, Halted}
-use Rattle.session.proofs.Facing.{token-after, log-facing, tape-facing, next-facing}
+use Rattle.session.proofs.Facing.{token-after, log-facing, tape-facing, next-facing, carried-facing}
 
 -- every rule makes a step
 abbrev pub rule-steps : (T : Table) (s : State) (r : Rule) → RuleIs T s r → (u : State) × (step T s ≡ some u)
@@ -100,9 +100,9 @@ module _ {w : List ℕ} {n : ℕ} {se : Declared.Session} {ls ts : List ℕ} {s 
 
       pub goes-on : length ls′ ≡ length ls → length ts′ ≡ length ts → (to : Arrived.Arrival) (next : Declared.Session)
           → StepIs w n about ls ts (facing way s) (Steps.Made to) ls′ ts′ → about .position ≡ se .position
-          → sessionMeant next ≡ sessionAfter way (sessionMeant (arrivedAt (se .position) to)) → PassIs w n se ls ts way s (On next r) ls′ ts′
+          → sessionMeant next ≡ sessionAfter way (sessionMeant (arrivedAt (se .position) to)) → PassIs w n se ls ts way s (On next r (to .carried)) ls′ ts′
       goes-on el et to next i same a =
-          let (u, e, token) = i in
+          let (u, e, token, words) = i in
           let there : TokenAt w n next ls′ ts′ (facing way u) = token-after (subst (λ p. TokenAt w n (arrivedAt p to) ls′ ts′ u) same token) way a in
           let holds = there .enters .holds in
           let fits : Fits (room ls ts) (facing way u) = record {
@@ -111,4 +111,4 @@ module _ {w : List ℕ} {n : ℕ} {se : Declared.Session} {ls ts : List ℕ} {s 
           } in
           let came : nextBy way T here ≡ some (moment (facing way u) (next .position)) =
           next-facing way T s u (sessionMeant (arrivedAt (se .position) to)) e ∙ ap (λ p. some (moment (facing way u) p)) (sym (ap (λ x. x .position) a)) in
-          (facing way u, b .2, came, λ c. no-stop-next way T (room ls ts) (suc c) here (b .0 c) _ came fits, there, el, et)
+          (facing way u, b .2, came, λ c. no-stop-next way T (room ls ts) (suc c) here (b .0 c) _ came fits, there, el, et, words ∙ carried-facing way T s)

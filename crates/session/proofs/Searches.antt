@@ -119,4 +119,4 @@ module _ {w : List ℕ} {n : ℕ} {se : Declared.Session} {ls ts : List ℕ} {s 
         search-none e a ls₃ ts₃ winds =
             let stays : Winds w n se ls ts Forward 0 a ls₃ ts₃ = rw (e .0, e .1) at winds in
             let k : outcomeMeant a ls₃ ts₃ ≡ wound r (ended T here spent) = rw (wind-none forward T r here) at (stays s h) in
-            rw unseen (λ i. record { session = k i .session; steps = k i .steps; stop = Stop.none; peak = k i .peak; log = k i .log; tape = k i .tape })
+            rw unseen (λ i. record { session = k i .session; steps = k i .steps; stop = Stop.none; peak = k i .peak; carried = k i .carried; log = k i .log; tape = k i .tape })

@@ -86,4 +86,4 @@ pub outcome-once : (o u : Outcome) (ls ls′ ts ts′ : List ℕ) → outcomeMea
 outcome-once o u ls ls′ ts ts′ e =
     let s = session-once (o .session) (u .session) (ap (λ x. x .session) e) in
     let x = stop-once (o .stop) (u .stop) (ap (λ y. y .stop) e) in
-    (λ i. record { session = s i; steps = e i .steps; stop = x i; peak = e i .peak }, ap (λ y. y .log) e, ap (λ y. y .tape) e)
+    (λ i. record { session = s i; steps = e i .steps; stop = x i; peak = e i .peak; carried = e i .carried }, ap (λ y. y .log) e, ap (λ y. y .tape) e)

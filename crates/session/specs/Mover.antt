@@ -55,11 +55,10 @@ partFrom m s = midOf m (length s - m) s
 abbrev pub withPart : ℕ → List ℕ → List ℕ → List ℕ
 withPart m s part = putMid m (length s - m) s part
 
--- The top entry of one list moved to the part of the other's slice that starts at its top, and these are the lengths then; or it has no room.
+-- The top entry of one list, of k words, moved to the part of the other's slice that starts at its top, and these are the lengths then; or it has no room.
 abbrev pub TopMoved : Table → List ℕ → ℕ → List ℕ → ℕ → ListEnds → List ℕ → List ℕ → Type 0
-TopMoved T from top to end (At left came) from′ to′ =
-    (k : ℕ)
-    × (part : List ℕ)
+TopMoved T from top to end (At left came k) from′ to′ =
+    (part : List ℕ)
     × MoverIs T from top 1 (partFrom end to) (Moved k) from′ part
     × (left ≡ top - k)
     × (came ≡ end + k)

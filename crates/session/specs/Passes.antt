@@ -10,7 +10,7 @@ use Rattle.term.specs.Table.{Table, tableIn}
 use Rattle.machine.specs.Machine.{State, turned, turn}
 use Rattle.calls.specs.Session
 use Rattle.calls.specs.Stops.{Way, forward, back, Moment, moment, room, greatest, isAnswer, nextBy, haltBefore, stopBefore}
-use Rattle.calls.specs.Winding.{wind}
+use Rattle.calls.specs.Winding.{carriedBy, wind}
 use Rattle.calls.specs.Calls.{wound, refusedOutcome}
 use Rattle.session.specs.Types.{wayMeant, stopMeant, outcomeMeant, lent}
 use Rattle.session.specs.Steps.{TokenAt}
@@ -96,9 +96,9 @@ BeforeIs w n se way s (Makes r) =
 abbrev pub TellsBefore : List ℕ → ℕ → Declared.Session → List ℕ → Way → Before → Type 0
 TellsBefore w n se ts way b = (ls : List ℕ) (s : State) → TokenAt w n se ls ts s → BeforeIs w n se way s b
 
--- One pass of the loop, the count not used up: on to the next moment by a rule, or halted where it stands.
+-- One pass of the loop, the count not used up: on to the next moment by a rule, with the words that the step carries, or halted where it stands.
 abbrev pub PassIs : List ℕ → ℕ → Declared.Session → List ℕ → List ℕ → Way → State → Pass → List ℕ → List ℕ → Type 0
-PassIs w n se ls ts way s (On to r) ls′ ts′ =
+PassIs w n se ls ts way s (On to r k) ls′ ts′ =
     (u : State)
     × RuleIs (tableIn w n) (facing way s) r
     × (nextBy way (tableIn w n) (moment s (se .position)) ≡ some (moment u (to .position)))
@@ -106,21 +106,22 @@ PassIs w n se ls ts way s (On to r) ls′ ts′ =
     × TokenAt w n to ls′ ts′ u
     × (length ls′ ≡ length ls)
     × (length ts′ ≡ length ts)
+    × (k ≡ carriedBy way (tableIn w n) s)
 PassIs w n se ls ts way s (Halted x) ls′ ts′ =
     ((c : ℕ) → stopBefore way (tableIn w n) (room ls ts) (suc c) (moment s (se .position)) ≡ some (stopMeant x)) × (ls′ ≡ ls) × (ts′ ≡ ts)
 
 abbrev pub Passes : List ℕ → ℕ → Declared.Session → List ℕ → List ℕ → DeclaredWay.Way → Pass → List ℕ → List ℕ → Type 0
 Passes w n se ls ts way p ls′ ts′ = (s : State) → TokenAt w n se ls ts s → PassIs w n se ls ts (wayMeant way) s p ls′ ts′
 
--- The running outcome of a loop: of no step, with one step more, and halted. The last number is that of the bullets there.
+-- The running outcome of a loop: of no step, with one step more, and halted. Of the last numbers b is that of the bullets there, and k of the words that the step carried.
 abbrev pub begunAt : ℕ → Declared.Session → ℕ → Came.Outcome
-begunAt n se b = record { session = se; steps = 0; stop = Spent; peak = weightOf n se b }
+begunAt n se b = record { session = se; steps = 0; stop = Spent; peak = weightOf n se b; carried = 0 }
 
-abbrev pub lengthenedTo : Came.Outcome → ℕ → Declared.Session → ℕ → Came.Outcome
-lengthenedTo o n to b = record { session = to; steps = o .steps + 1; stop = Spent; peak = max (o .peak) (weightOf n to b) }
+abbrev pub lengthenedTo : Came.Outcome → ℕ → Declared.Session → ℕ → ℕ → Came.Outcome
+lengthenedTo o n to b k = record { session = to; steps = o .steps + 1; stop = Spent; peak = max (o .peak) (weightOf n to b); carried = o .carried + k }
 
 abbrev pub endedBy : Came.Outcome → DeclaredStop.Stop → Came.Outcome
-endedBy o x = record { session = o .session; steps = o .steps; stop = x; peak = o .peak }
+endedBy o x = record { session = o .session; steps = o .steps; stop = x; peak = o .peak; carried = o .carried }
 
 -- The whole loop answers the run from every state held.
 abbrev pub Winds : List ℕ → ℕ → Declared.Session → List ℕ → List ℕ → DeclaredWay.Way → ℕ → Came.Outcome → List ℕ → List ℕ → Type 0

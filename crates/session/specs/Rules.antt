@@ -68,11 +68,11 @@ BulletGoes se j d r =
     (w : List ℕ) (n : ℕ) (ls ts : List ℕ) (s : State) (t : Tape) → TokenAt w n se ls ts s → s .tape ≡ bullet ∷ t
     → step (tableIn w n) s ≡ some (state j (dirMeant d) (s .log) t) → StepIs w n se ls ts s r ls ts
 
--- An entry moved down to node j, by where the two lists end then: from the tape onto the log, and from the log onto the tape.
+-- An entry moved down to node j, by where the two lists end then and how many words it has: from the tape onto the log, and from the log onto the tape.
 abbrev pub ontoLog : ℕ → ListEnds → Stepped
-ontoLog j (At t l) = Made (record { node = j; dir = Down; «log_len» = l; «tape_len» = t })
+ontoLog j (At t l k) = Made (record { node = j; dir = Down; «log_len» = l; «tape_len» = t; carried = k })
 ontoLog j NoRoom = LogFull
 
 abbrev pub ontoTape : ℕ → ListEnds → Stepped
-ontoTape j (At l t) = Made (record { node = j; dir = Down; «log_len» = l; «tape_len» = t })
+ontoTape j (At l t k) = Made (record { node = j; dir = Down; «log_len» = l; «tape_len» = t; carried = k })
 ontoTape j NoRoom = TapeFull

@@ -61,6 +61,7 @@ outcomeMeant o ls ts = record {
   steps = o .steps;
   stop = stopMeant (o .stop);
   peak = o .peak;
+  carried = o .carried;
   log = ls;
   tape = ts;
 }

@@ -67,12 +67,14 @@ pub struct Opening {
     pub refusal: u32,
 }
 
-// What the calls that wind answer. The peak is the greatest weight over the states stood in, in bits (document 02, change 2).
+// What the calls that wind answer. The peak is the greatest weight over the states stood in, in bits (document 02, change 2); carried is how many words the steps moved
+// between log and tape (document 02, change 6).
 pub struct Outcome {
     pub session: Session,
     pub steps: u32,
     pub stop: Stop,
     pub peak: u32,
+    pub carried: u64,
 }
 
 // Writes 0 over every word.
@@ -127,6 +129,7 @@ fn refused_outcome(session: Session, k: u32) -> Outcome
         steps: 0,
         stop: Stop::Refused(k),
         peak: 0,
+        carried: 0,
     }
 }
 

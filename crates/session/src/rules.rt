@@ -14,12 +14,13 @@ use crate::mover::Moving;
 use crate::mover::make_entry;
 use crate::mover::move_entries;
 
-// Where a step leads: its node and direction, and the lengths in words of log and tape there.
+// Where a step leads: its node and direction, and the lengths in words of log and tape there; and how many words it moved between the two.
 pub(crate) struct Arrival {
     pub(crate) node: u32,
     pub(crate) dir: Dir,
     pub(crate) log_len: u32,
     pub(crate) tape_len: u32,
+    pub(crate) carried: u32,
 }
 
 // What became of a step: where it leads, or which slice has no room for it.
@@ -29,9 +30,9 @@ pub(crate) enum Stepped {
     TapeFull,
 }
 
-// The lengths in words after an entry moved, of the list that it left and of the one that it came to; or that this had no room.
+// The lengths in words after an entry moved, of the list that it left and of the one that it came to, and how many words it has; or that there was no room for it.
 pub(crate) enum ListEnds {
-    At(u32, u32),
+    At(u32, u32, u32),
     NoRoom,
 }
 
@@ -66,6 +67,7 @@ fn push_bullet(session: Session, node: u32, dir: Dir, tape: &[u32]) -> Stepped
         dir: dir,
         log_len: session.log_len,
         tape_len: session.tape_len + 1,
+        carried: 0,
     })
 }
 
@@ -79,10 +81,11 @@ fn pop_bullet(session: Session, node: u32, dir: Dir) -> Stepped
         dir: dir,
         log_len: session.log_len,
         tape_len: session.tape_len - 1,
+        carried: 0,
     })
 }
 
-// Rule 3. To the binder, up; the top arity-many entries leave the log, and the entry of the variable and these goes onto the tape.
+// Rule 3. To the binder, up; the top arity-many entries leave the log, and the entry of the variable and these goes onto the tape. The variable's own word is made there, not carried.
 fn rule_3(table: &[u32], n: u32, at: Session, to: u32, log: &mut [u32], tape: &mut [u32]) -> Stepped
     requires { ⌜ Fitting (now table) n at (now log) (now tape) (Rule.Three to) ⌝ }
     ensures { λ r. ⌜ Steps (now (table .entry)) n at (now (log .entry)) (now (tape .entry)) r (now (log .exit)) (now (tape .exit)) ⌝ }
@@ -97,12 +100,13 @@ fn rule_3(table: &[u32], n: u32, at: Session, to: u32, log: &mut [u32], tape: &m
             dir: Dir::Up,
             log_len: (l - k) as u32,
             tape_len: (m + k + 1) as u32,
+            carried: k as u32,
         }),
         Moving::NoRoom => Stepped::TapeFull,
     }
 }
 
-// Rule 4. To the entry's variable, up; the entries inside it go onto the log in their order, and its own word leaves the tape.
+// Rule 4. To the entry's variable, up; the entries inside it go onto the log in their order, and its own word leaves the tape, carried nowhere.
 fn rule_4(table: &[u32], n: u32, at: Session, to: u32, log: &mut [u32], tape: &mut [u32]) -> Stepped
     requires { ⌜ Fitting (now table) n at (now log) (now tape) (Rule.Four to) ⌝ }
     ensures { λ r. ⌜ Steps (now (table .entry)) n at (now (log .entry)) (now (tape .entry)) r (now (log .exit)) (now (tape .exit)) ⌝ }
@@ -119,6 +123,7 @@ fn rule_4(table: &[u32], n: u32, at: Session, to: u32, log: &mut [u32], tape: &m
                 dir: Dir::Up,
                 log_len: (l + k) as u32,
                 tape_len: (under - k) as u32,
+                carried: k as u32,
             })
         }
         Moving::NoRoom => Stepped::LogFull,
@@ -133,7 +138,10 @@ fn move_top(table: &[u32], n: u32, from: &mut [u32], top: u32, to: &mut [u32], e
     let m = end as usize;
     let moving = move_entries(table, n, from, top as usize, 1, &mut to[m..]);
     match moving {
-        Moving::Moved(k) => ListEnds::At(top - k as u32, end + k as u32),
+        Moving::Moved(k) => {
+            let words = k as u32;
+            ListEnds::At(top - words, end + words, words)
+        }
         Moving::NoRoom => ListEnds::NoRoom,
     }
 }
@@ -143,11 +151,12 @@ fn onto_log(to: u32, ends: ListEnds) -> Stepped
     ensures { λ r. ⌜ r ≡ ontoLog to ends ⌝ }
 {
     match ends {
-        ListEnds::At(tape_len, log_len) => Stepped::Made(Arrival {
+        ListEnds::At(tape_len, log_len, from_tape) => Stepped::Made(Arrival {
             node: to,
             dir: Dir::Down,
             log_len: log_len,
             tape_len: tape_len,
+            carried: from_tape,
         }),
         ListEnds::NoRoom => Stepped::LogFull,
     }
@@ -158,11 +167,12 @@ fn onto_tape(to: u32, ends: ListEnds) -> Stepped
     ensures { λ r. ⌜ r ≡ ontoTape to ends ⌝ }
 {
     match ends {
-        ListEnds::At(log_len, tape_len) => Stepped::Made(Arrival {
+        ListEnds::At(log_len, tape_len, from_log) => Stepped::Made(Arrival {
             node: to,
             dir: Dir::Down,
             log_len: log_len,
             tape_len: tape_len,
+            carried: from_log,
         }),
         ListEnds::NoRoom => Stepped::TapeFull,
     }

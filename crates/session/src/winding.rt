@@ -1,8 +1,9 @@
 // The steps of a call: forward or back until a stop, or until the token stands on a chosen node in a chosen direction.
 ghost use mathlib.Core.Path.{_≡_};
-ghost use Prim.Native.Nat.{_+_, max, _≤_, _<_};
+ghost use Prim.Native.Nat.{_+_, _*_, max, _≤_, _<_};
 ghost use lib.ListN.{length};
 ghost use Rattle.machine.specs.Machine.{turned as otherDir};
+ghost use Rattle.calls.specs.Calls.{longest};
 ghost use Rattle.calls.specs.Visits.{spot};
 ghost use Rattle.session.specs.Types.{dirMeant, sessionMeant, wayMeant};
 ghost use Rattle.session.specs.Steps.{Ready, arrivedAt};
@@ -37,9 +38,9 @@ pub(crate) enum Before {
     Makes(Rule),
 }
 
-// One pass of the loop: on with the session after a step, and the rule that it was made by; or halted.
+// One pass of the loop: on with the session after a step, the rule that it was made by and how many words it carried; or halted.
 pub(crate) enum Pass {
-    On(Session, Rule),
+    On(Session, Rule, u32),
     Halted(Stop),
 }
 
@@ -180,7 +181,7 @@ fn one_pass(
             match stepped {
                 Stepped::Made(to) => {
                     let next = after_step(session, to, way);
-                    Pass::On(next, rule)
+                    Pass::On(next, rule, to.carried)
                 }
                 Stepped::LogFull => Pass::Halted(Stop::LogFull),
                 Stepped::TapeFull => Pass::Halted(Stop::TapeFull),
@@ -206,6 +207,7 @@ fn begun(n: u32, session: Session, bullets: u32) -> Outcome
         steps: 0,
         stop: Stop::Spent,
         peak: peak,
+        carried: 0,
     }
 }
 
@@ -216,18 +218,28 @@ fn one_more(steps: u32) -> u32
     steps + 1
 }
 
-// The outcome with one step more, to so many bullets on the tape.
-fn lengthened(run: Outcome, n: u32, to: Session, bullets: u32) -> Outcome
-    requires { ⌜ Weighable n to bullets × (run .steps < 4294967295) ⌝ }
-    ensures { λ r. ⌜ r ≡ lengthenedTo run n to bullets ⌝ }
+// The words carried, and those of one step more: a step carries no more than a slice holds, so that the sum fits.
+fn with_words(carried: u64, words: u32) -> u64
+    requires { ⌜ (carried ≤ longest * 4294967295) × (words ≤ longest) ⌝ }
+    ensures { λ r. ⌜ r ≡ carried + words ⌝ }
+{
+    carried + words as u64
+}
+
+// The outcome with one step more, which carried so many words, to so many bullets on the tape.
+fn lengthened(run: Outcome, n: u32, to: Session, bullets: u32, words: u32) -> Outcome
+    requires { ⌜ Weighable n to bullets × (run .steps < 4294967295) × (run .carried ≤ longest * run .steps) × (words ≤ longest) ⌝ }
+    ensures { λ r. ⌜ r ≡ lengthenedTo run n to bullets words ⌝ }
 {
     let steps = one_more(run.steps);
     let peak = larger(run.peak, weight(n, to, bullets));
+    let carried = with_words(run.carried, words);
     Outcome {
         session: to,
         steps: steps,
         stop: Stop::Spent,
         peak: peak,
+        carried: carried,
     }
 }
 
@@ -241,10 +253,11 @@ pub(crate) fn halted(run: Outcome, stop: Stop) -> Outcome
         steps: run.steps,
         stop: stop,
         peak: run.peak,
+        carried: run.carried,
     }
 }
 
-// At most `count` passes, and the peak over the states stood in; found as soon as a step leads to the node in the direction. Where the token stands at first is not looked at. The bullets
+// At most `count` passes, the peak over the states stood in and the words carried; found as soon as a step leads to the node in the direction. Where the token stands at first is not looked at. The bullets
 // are counted once, and then kept count of.
 pub(crate) fn seek(
     table: &[u32],
@@ -269,9 +282,9 @@ pub(crate) fn seek(
             Pass::Halted(stop) => {
                 return halted(run, stop);
             }
-            Pass::On(to, rule) => {
+            Pass::On(to, rule, words) => {
                 bullets = bullets_after(rule, bullets);
-                run = lengthened(run, n, to, bullets);
+                run = lengthened(run, n, to, bullets, words);
                 if stands_on(to, node, dir) {
                     return halted(run, Stop::Found);
                 }

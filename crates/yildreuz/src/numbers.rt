@@ -129,5 +129,6 @@ pub(crate) fn given_back(given: HostSession, o: Outcome) -> HostOutcome
         value: stop_value(stop),
         value2: 0,
         peak: o.peak,
+        carried: o.carried,
     }
 }

@@ -44,17 +44,14 @@ small c =
 enum-known-moving : tie.Need-enum-known-moving
 enum-known-moving c = search needs
 
-cast-t19 : tie.Need-cast-t19
-cast-t19 c = omega (arith, small c)
+cast-words : tie.Need-cast-words
+cast-words c = omega (arith, small c)
 
 sub-t20 : tie.Need-sub-t20
 sub-t20 c = moved c .1
 
-cast-t21 : tie.Need-cast-t21
-cast-t21 c = omega (arith, small c)
-
-add-t22 : tie.Need-add-t22
-add-t22 c = omega (arith, small c)
+add-t21 : tie.Need-add-t21
+add-t21 c = omega (arith, small c)
 
 enum-told : tie.Need-enum-told
 enum-told c = search needs
@@ -66,7 +63,7 @@ same-length-2 : tie.Need-same-length-2
 same-length-2 c = search needs
 
 returns : tie.Need-returns
-returns c = (c .before .moving .given .0 .0, _, moved c, refl, refl, refl)
+returns c = (_, moved c, refl, refl, refl)
 
 same-length-3 : tie.Need-same-length-3
 same-length-3 c = search needs
@@ -87,10 +84,9 @@ move-top-spec =
     part-move-entries-end
     move-entries-requires
     enum-known-moving
-    cast-t19
+    cast-words
     sub-t20
-    cast-t21
-    add-t22
+    add-t21
     enum-told
     same-length
     same-length-2

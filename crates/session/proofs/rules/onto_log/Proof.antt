@@ -1,4 +1,4 @@
--- `onto_log` answers where the lists end, the log last.
+-- `onto_log` answers where the lists end, the log last, and the words that the tape gave.
 use mathlib.Core.Path.{refl}
 use borrow.Author.Needs.{needs}
 use Rattle.session.proofs.rules.onto_log.Statement.{statement}

@@ -1,4 +1,4 @@
--- `onto_tape` answers where the lists end, the tape last.
+-- `onto_tape` answers where the lists end, the tape last, and the words that the log gave.
 use mathlib.Core.Path.{refl}
 use borrow.Author.Needs.{needs}
 use Rattle.session.proofs.rules.onto_tape.Statement.{statement}

@@ -73,6 +73,9 @@ add-t25 c = omega (arith, small c)
 cast-t26 : tie.Need-cast-t26
 cast-t26 c = omega (arith, small c)
 
+cast-t27 : tie.Need-cast-t27
+cast-t27 c = omega (arith, small c)
+
 enum-told : tie.Need-enum-told
 enum-told c = search needs
 
@@ -119,6 +122,7 @@ rule-3-spec =
     add-t24
     add-t25
     cast-t26
+    cast-t27
     enum-told
     same-length
     same-length-2

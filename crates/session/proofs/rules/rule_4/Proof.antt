@@ -84,6 +84,9 @@ sub-t25 c = moved c .1
 cast-t26 : tie.Need-cast-t26
 cast-t26 c = search needs
 
+cast-t27 : tie.Need-cast-t27
+cast-t27 c = omega (arith, small c)
+
 enum-told : tie.Need-enum-told
 enum-told c = search needs
 
@@ -132,6 +135,7 @@ rule-4-spec =
     cast-t24
     sub-t25
     cast-t26
+    cast-t27
     enum-told
     same-length
     same-length-2

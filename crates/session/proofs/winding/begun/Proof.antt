@@ -9,7 +9,7 @@ weight-requires : tie.Need-weight-requires
 weight-requires c κs = search needs
 
 returns : tie.Need-returns
-returns c = ap (λ q. record { session = c .before .args .session; steps = 0; stop = Spent; peak = q }) (c .weight .ensures)
+returns c = ap (λ q. record { session = c .before .args .session; steps = 0; stop = Spent; peak = q; carried = 0 }) (c .weight .ensures)
 
 pub begun-spec : {M : Type 1} → statement M
 begun-spec = tie.close (tie.spec weight-requires returns)

@@ -11,7 +11,7 @@ use Rattle.session.specs.Types.{dirMeant, wayMeant, lent}
 use Rattle.session.specs.Steps.{TokenAt}
 use Rattle.session.specs.Passes.{PassIs}
 use Rattle.session.proofs.Weighing.{weighable}
-use Rattle.session.proofs.Loops.{LoopOf, loop-begins, ready, loop-spent, loop-halted, loop-countable, loop-weighable, loop-goes-on, loop-found, token-on}
+use Rattle.session.proofs.Loops.{LoopOf, loop-begins, ready, loop-spent, loop-halted, loop-countable, loop-weighable, loop-carries-few, loop-goes-on, loop-found, token-on}
 use Rattle.session.specs.declared.winding.Pass.the-variants.{On}
 use borrow.Author.Needs.{needs}
 use Rattle.session.proofs.winding.seek.Statement.{statement}
@@ -89,20 +89,21 @@ passed : (c : tie.After-known-told2 Inv-loop μ-loop) (s : State) → (let k = c
     let a = c .before .before .before .before .before .before .before .before .before .before .before .before .before .before .before .before .before .before .before .before .before .args in
     let l = c .before .before .before .before .before .before .before .before .before .before .before .before .before in
     (h : TokenAt (a .table .now) (a .n) (a .session) (a .log .now) (a .tape .now) s)
-    → PassIs (a .table .now) (a .n) (l .loop .run .session) (l .loop .log) (l .loop .tape) (wayMeant (a .way)) (loop-at l s h .state) (On (c .before .pass2 .given .0 .0) (c .before .pass2 .given .0 .1 .0)) (k .last .1 .1 .1 .0) (k .last .1 .1 .1 .1 .0))
+    → PassIs (a .table .now) (a .n) (l .loop .run .session) (l .loop .log) (l .loop .tape) (wayMeant (a .way)) (loop-at l s h .state) (On (c .before .pass2 .given .0 .0) (c .before .pass2 .given .0 .1 .0) (c .before .pass2 .given .0 .1 .1 .0)) (k .last .1 .1 .1 .0) (k .last .1 .1 .1 .1 .0))
 passed c s h = let l = loop-at (c .before .before .before .before .before .before .before .before .before .before .before .before .before) s h in rw (c .before .pass2 .given .1) at (c .before .before .before .before .before .before .before .one-pass .ensures (l .state) (l .token))
 
 bullets-after-requires : tie.Need-bullets-after-requires Inv-loop μ-loop
-bullets-after-requires c κs = let p = c .before .before .before .before .before .before .before .before .before .before .before .before .before .before .before .before .before .before .before .before .before .pre in loop-countable (loop-at (c .before .before .before .before .before .before .before .before .before .before .before .before .before) (p .state) (p .token)) (c .before .before .before .before .before .before .before .before .before .before .before .if1 .taken) (c .before .pass2 .given .0 .1 .0) (passed c (p .state) (p .token))
+bullets-after-requires c κs = let p = c .before .before .before .before .before .before .before .before .before .before .before .before .before .before .before .before .before .before .before .before .before .pre in loop-countable (loop-at (c .before .before .before .before .before .before .before .before .before .before .before .before .before) (p .state) (p .token)) (c .before .before .before .before .before .before .before .before .before .before .before .if1 .taken) (c .before .pass2 .given .0 .1 .0) (c .before .pass2 .given .0 .1 .1 .0) (passed c (p .state) (p .token))
 
 lengthened-requires : tie.Need-lengthened-requires Inv-loop μ-loop
 lengthened-requires c κs =
     let p = c .before .before .before .before .before .before .before .before .before .before .before .before .before .before .before .before .before .before .before .before .before .before in
     let rule = c .before .before .pass2 .given .0 .1 .0 in
-    let less = c .before .before .before .before .before .before .before .before .before .before .before .before .if1 .taken in (
-      rw (c .bullets-after .ensures) (loop-weighable (loop-at (c .before .before .before .before .before .before .before .before .before .before .before .before .before .before) (p .pre .state) (p .pre .token)) less rule (passed (c .before) (p .pre .state) (p .pre .token))),
-      omega (arith, less, p .fits .count),
-    )
+    let words = c .before .before .pass2 .given .0 .1 .1 .0 in
+    let less = c .before .before .before .before .before .before .before .before .before .before .before .before .if1 .taken in
+    let loop = loop-at (c .before .before .before .before .before .before .before .before .before .before .before .before .before .before) (p .pre .state) (p .pre .token) in
+    let on = passed (c .before) (p .pre .state) (p .pre .token) in
+    (rw (c .bullets-after .ensures) (loop-weighable loop less rule words on), omega (arith, less, p .fits .count), loop .few-carried, loop-carries-few loop less rule words on)
 
 stands-on-requires : tie.Need-stands-on-requires Inv-loop μ-loop
 stands-on-requires c κs = search needs
@@ -125,11 +126,13 @@ returns-2 : tie.Need-returns-2 Inv-loop μ-loop
 returns-2 c = λ s h.
     let e = c .before .before .before in
     rw (c .halted2 .ensures, e .lengthened .ensures, e .before .bullets-after .ensures)
-    (loop-found (loop-at (e .before .before .before .before .before .before .before .before .before .before .before .before .before .before .before) s h) (e .before .before .before .before .before .before .before .before .before .before .before .before .before .if1 .taken) (e .before .before .before .pass2 .given .0 .1 .0) (passed (e .before .before) s h)
+    (loop-found (loop-at (e .before .before .before .before .before .before .before .before .before .before .before .before .before .before .before) s h) (e .before .before .before .before .before .before .before .before .before .before .before .before .before .if1 .taken) (e .before .before .before .pass2 .given .0 .1 .0) (e .before .before .before .pass2 .given .0 .1 .1 .0) (passed (e .before .before) s h)
     (arrived (c .before .before) s h ∙ c .before .if2 .taken))
 
 loop-less : tie.Need-loop-less Inv-loop μ-loop
-loop-less c = omega (arith, ap (λ r. r .steps) (c .before .before .lengthened .ensures))
+loop-less c =
+    let e = c .before .before in
+    omega (arith, ap (λ r. r .steps) (e .lengthened .ensures), e .before .before .before .before .before .before .before .before .before .before .before .before .before .if1 .taken)
 
 loop-again : tie.Need-loop-again Inv-loop μ-loop
 loop-again c =
@@ -140,7 +143,7 @@ loop-again c =
     subst (λ r. (s : State) → TokenAt (a .table .now) (a .n) (r .session) (a .log .now) (a .tape .now) s
     → LoopOf (wayMeant (a .way)) (a .table .now) (a .n) (spot (a .node) (dirMeant (a .dir))) (a .count) (r .session) (a .log .now) (a .tape .now) s (e .lengthened .result) (e .before .bullets-after .result) (k .last .1 .1 .1 .0) (k .last .1 .1 .1 .1 .0))
     (sym (l .before .begun .ensures))
-    (λ s h. rw (e .lengthened .ensures, e .before .bullets-after .ensures) (loop-goes-on (loop-at l s h) (e .before .before .before .before .before .before .before .before .before .before .before .before .before .if1 .taken) (e .before .before .before .pass2 .given .0 .1 .0) (passed (e .before .before) s h) (arrived (c .before) s h ∙ c .if2 .left)))
+    (λ s h. rw (e .lengthened .ensures, e .before .bullets-after .ensures) (loop-goes-on (loop-at l s h) (e .before .before .before .before .before .before .before .before .before .before .before .before .before .if1 .taken) (e .before .before .before .pass2 .given .0 .1 .0) (e .before .before .before .pass2 .given .0 .1 .1 .0) (passed (e .before .before) s h) (arrived (c .before) s h ∙ c .if2 .left)))
 
 same-length-5 : tie.Need-same-length-5 Inv-loop μ-loop
 same-length-5 c = let p = c .before .before .before .before .before .before .before .before .before .before .pre in loop-at (c .before .before) (p .state) (p .token) .same-log
