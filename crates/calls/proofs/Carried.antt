@@ -39,7 +39,7 @@ run-carries-few way T r short =
     let l : run .carried ≤ longest * run .steps = more h in
     omega arith)
 
--- and a call at most that for each of its steps: half of what document 02 allows.
+-- and a call at most that for each of its steps:
 pub carries-few : (m : Move) (g : Given) → outcomeOf m g .carried ≤ longest * outcomeOf m g .steps
 carries-few m g =
     each-outcome g (λ o. o .carried ≤ longest * o .steps) (λ k. zero-le) (λ s h. record { walk = from-here s h; found = from-here s h; none = zero-le }) m
@@ -50,5 +50,6 @@ carries-few m g =
         run-carries-few way (tableIn (g .table) (g .n)) (room (g .log) (g .tape)) (h .short-log) c (moment s (g .session .position))
         (held-fits (tableIn (g .table) (g .n)) (record { session = g .session; log = g .log; tape = g .tape }) s (h .holds))
 
+-- half of what document 02 allows.
 pub carried-at-most : (m : Move) (g : Given) → outcomeOf m g .carried ≤ 32768 * outcomeOf m g .steps
 carried-at-most m g = omega (arith, carries-few m g)

@@ -184,7 +184,7 @@ module _ (T : Table) (s₀ : State) (r : Room) where
     pub log-is : st .log ≡ logSlice r (moment state p)
     pub tape-is : st .tape ≡ tapeSlice r (moment state p)
 
-  -- A call of the list's own that is no 12: as above, and "the sum is that of the plain machine's steps" (document 02, change 6), which are those between p and the new p.
+  -- A call of the list's own that is no 12: as above, and "The sum is that of the plain machine's steps" (document 02, change 6), which are those between p and the new p.
   abbrev pub AsWound : Move → ℕ → Outcome → Type 0
   AsWound m p o = OwnCall p (positionBy m p) m o × Says m p (positionBy m p) (o .stop) × (o .carried ≡ carriedBetween T s₀ p (positionBy m p))
 

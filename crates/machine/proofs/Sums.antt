@@ -28,7 +28,7 @@ module _ (T : Table) (s₀ : State) where
       let first : carriedOver T s₀ (suc k) p ≡ carriedAfter T s₀ p + carriedOver T s₀ k (suc p) = over-first k p in
       over-first (suc k) p ∙ omega arith
 
-  -- k steps on from p, and k steps back to it
+  -- k steps on from p, and k steps back from it to q
   pub between-up : (k p : ℕ) → carriedOver T s₀ k p ≡ carriedBetween T s₀ p (p + k)
   between-up k p = ap₂ (carriedOver T s₀) (omega arith) (omega arith)
 
