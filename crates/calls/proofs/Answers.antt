@@ -99,6 +99,10 @@ module _ (g : Given) (s : State) (h : Enters g s) where
       (lent-unrefused (g .table) (g .n) (g .log) (g .tape) (accepts-all (g .table) (g .n) (h .accepted-table)) (h .short-log) (h .short-tape))
       s state-given
 
+  -- its lists fit the slices
+  pub enters-fits : Fits (room (g .log) (g .tape)) s
+  enters-fits = record { log-fits = rw (h .holds .log-length) at (h .holds .log-fits); tape-fits = rw (h .holds .tape-length) at (h .holds .tape-fits) }
+
   -- to a spot of the term
   module _ (v : Spot) (on : offTerm (g .n) (v .node) ≡ false) where
     pub seeks-back : backToOf g v ≡ wound (room (g .log) (g .tape)) (seekBack (tableIn (g .table) (g .n)) (room (g .log) (g .tape)) v (moment s (g .session .position)))
@@ -160,9 +164,6 @@ held-laid-down T st s h = λ i. record {
   log = h .log-lies i;
   tape = h .tape-lies i;
 }
-
-pub held-fits : (T : Table) (st : Standing) (s : State) → Holds T (st .session) (st .log) (st .tape) s → Fits (room (st .log) (st .tape)) s
-held-fits T st s h = record { log-fits = rw (h .log-length) at (h .log-fits); tape-fits = rw (h .tape-length) at (h .tape-fits) }
 
 -- A call on a good state laid down in slices that it fits.
 module _ (r : Room) (m : Moment) (fits : Fits r (m .state)) where

@@ -18,7 +18,7 @@ use Rattle.calls.proofs.Stops.{Fits}
 use Rattle.calls.proofs.Unrefused.{visit-twelve}
 use Rattle.calls.proofs.Visits.{each-sought, sought-back, found-not-none, none-unrefused}
 use Rattle.calls.proofs.Retrace.{Backed, backed, Again, again}
-use Rattle.calls.proofs.Answers.{back-to-refused, entered, enters-unrefused, winds, seeks-back, laidDown, held-laid-down, held-fits, laid-winds}
+use Rattle.calls.proofs.Answers.{back-to-refused, entered, enters-unrefused, enters-fits, winds, seeks-back, laidDown, held-laid-down, laid-winds}
 use Rattle.calls.proofs.RoundTrip.{Restored}
 
 -- the call forward on what a call on g left, by the steps that it made
@@ -62,7 +62,7 @@ module _ (g : Given) (s : State) (h : Enters g s) where
     facts = accepted-facts (g .table) (g .n) (h .accepted-table)
 
     fits : Fits r s
-    fits = held-fits T given s (h .holds)
+    fits = enters-fits g s h
 
     came : Again T r facts here out home
     came = again T r facts c here (h .holds .good) fits near

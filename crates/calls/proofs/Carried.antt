@@ -13,7 +13,7 @@ use Rattle.calls.specs.Calls.{longest, Enters}
 use Rattle.calls.specs.Demand.{Move, outcomeOf}
 use Rattle.calls.proofs.Stops.{Fits, fits-next}
 use Rattle.calls.proofs.Winds.{next-is, each-run}
-use Rattle.calls.proofs.Answers.{held-fits}
+use Rattle.calls.proofs.Answers.{enters-fits}
 use Rattle.calls.proofs.Outcomes.{each-outcome}
 
 -- A step either way carries the words by which the log grows or shrinks,
@@ -47,8 +47,7 @@ carries-few m g =
     from-here : (s : State) → Enters g s → (way : Way) (c : ℕ)
         → (let run = wind way (tableIn (g .table) (g .n)) (room (g .log) (g .tape)) c (moment s (g .session .position)) in run .carried ≤ longest * run .steps)
     from-here s h way c =
-        run-carries-few way (tableIn (g .table) (g .n)) (room (g .log) (g .tape)) (h .short-log) c (moment s (g .session .position))
-        (held-fits (tableIn (g .table) (g .n)) (record { session = g .session; log = g .log; tape = g .tape }) s (h .holds))
+        run-carries-few way (tableIn (g .table) (g .n)) (room (g .log) (g .tape)) (h .short-log) c (moment s (g .session .position)) (enters-fits g s h)
 
 -- half of what document 02 allows.
 pub carried-at-most : (m : Move) (g : Given) → outcomeOf m g .carried ≤ 32768 * outcomeOf m g .steps

@@ -16,7 +16,7 @@ use Rattle.calls.specs.Calls.{callNumber, Enters, wound, forwardOf, back
 use Rattle.calls.specs.Demand.{Standing, leftBy, givenTo}
 use Rattle.calls.proofs.Stops.{Fits}
 use Rattle.calls.proofs.Runs.{Trail, begun, trail-none, trail-fits, trail-good, On, forward-on, Off, back-off}
-use Rattle.calls.proofs.Answers.{wind-refused, entered, winds, laidDown, held-laid-down, held-fits, laid-winds}
+use Rattle.calls.proofs.Answers.{wind-refused, entered, winds, laidDown, held-laid-down, enters-fits, laid-winds}
 
 -- the call back on what a call on g left, by the steps that it made
 abbrev pub backBy : Given → Outcome → Outcome
@@ -55,7 +55,7 @@ module _ (g : Given) (c : ℕ) (s : State) (h : Enters g s) where
   facts = accepted-facts (g .table) (g .n) (h .accepted-table)
 
   fits : Fits r s
-  fits = held-fits T′ given s (h .holds)
+  fits = enters-fits g s h
 
   on : On T′ r s 0 p out
   on = forward-on T′ r s c (moment s p) 0 begun

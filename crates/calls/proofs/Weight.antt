@@ -30,7 +30,7 @@ use Rattle.calls.proofs.Digits.{digits-are, digits-at-most, digits-once
 use Rattle.calls.proofs.Peaks.{Walked, walked-nowhere, walked}
 use Rattle.calls.proofs.Outcomes.{each-outcome}
 use Rattle.calls.proofs.Visits.{wind-none, sought, each-sought, sought-back}
-use Rattle.calls.proofs.Answers.{either-way, winds, seeks-back, seeks-forward, held-fits}
+use Rattle.calls.proofs.Answers.{either-way, winds, seeks-back, seeks-forward, enters-fits}
 
 -- ---- the words of both lists
 
@@ -150,7 +150,7 @@ from-here : (way : Way) (g : Given) (s : State) → Enters g s → (c : ℕ)
 unfolding tableIn
 from-here way g s h c =
     run-light (tableIn (g .table) (g .n)) (h .accepted-table .some-node) (h .accepted-table .few-nodes) way (room (g .log) (g .tape)) (h .short-log) (h .short-tape) c
-    (moment s (g .session .position)) (held-fits (tableIn (g .table) (g .n)) (record { session = g .session; log = g .log; tape = g .tape }) s (h .holds))
+    (moment s (g .session .position)) (enters-fits g s h)
 
 own-light : (g : Given) (s : State) → Enters g s → weight (tableIn (g .table) (g .n)) s ≤ heaviest
 own-light g s h = rw (wind-none forward (tableIn (g .table) (g .n)) (room (g .log) (g .tape)) (moment s (g .session .position))) at (from-here forward g s h 0)

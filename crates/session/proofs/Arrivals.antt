@@ -1,5 +1,5 @@
 -- Log and tape in the slices that a session stands on, and where a step leads: if its lists lie in the slices, the token stands there, and the step carried the words by which the log grew or shrank.
-use mathlib.Core.Path.{_≡_, refl, ap, _∙_}
+use mathlib.Core.Path.{_≡_, refl, ap, _∙_, subst}
 use mathlib.Core.Option.{some}
 use mathlib.Core.List.{List}
 use Prim.Native.Nat.{ℕ, _+_, _-_, _≤_}
@@ -12,6 +12,9 @@ use Rattle.machine.specs.Machine.{State, state, step}
 use Rattle.machine.specs.Slice.{slice}
 use Rattle.machine.proofs.Reverse.{keeps-good}
 use Rattle.machine.proofs.Carried.{carried-change}
+use Rattle.calls.specs.Stops.{Room, room}
+use Rattle.calls.proofs.Stops.{Fits}
+use Rattle.calls.proofs.Answers.{enters-fits}
 use Rattle.session.specs.Types.{dirMeant}
 use Rattle.session.specs.Steps.{TokenAt, StepIs}
 use Rattle.session.specs.declared.Dir.{Dir}
@@ -34,6 +37,10 @@ module _ {w : List ℕ} {n : ℕ} {se : Declared.Session} {ls ts : List ℕ} {s 
     many = h .enters .holds .tape-length ∙ ap (λ u. length (tapeWords u)) e;
     words = h .enters .holds .tape-lies ∙ ap (λ u. slice (length ts) (tapeWords u)) e;
   }
+
+  -- the state fits slices as long as these
+  pub fits-within : {r : Room} → room ls ts ≡ r → Fits r s
+  fits-within e = subst (λ r. Fits r s) e (enters-fits _ s (h .enters))
 
 -- where a step leads
 abbrev pub arrival : ℕ → Dir → ℕ → ℕ → ℕ → Arrived.Arrival

@@ -15,9 +15,7 @@ use Rattle.calls.specs.Weight.{bullets, weight}
 use Rattle.calls.specs.Winding.{Run, carriedBy, ended, longer, wind}
 use Rattle.calls.specs.Calls.{longest, wound}
 use Rattle.calls.specs.Visits.{Spot, sameDir, isOn, seek}
-use Rattle.calls.proofs.Stops.{Fits}
 use Rattle.calls.proofs.Peaks.{walked}
-use Rattle.calls.proofs.Answers.{held-fits}
 use Rattle.calls.proofs.Carried.{step-carries-few}
 use Rattle.calls.proofs.Visits.{seek-none, seek-stops, seek-arrives, seek-goes-on, each-sought, sought}
 use Rattle.session.specs.Types.{dirMeant, sessionMeant, stopMeant, outcomeMeant}
@@ -30,6 +28,7 @@ use Rattle.session.specs.declared.Stop as DeclaredStop
 use Rattle.session.specs.declared.Stop.the-variants.{Spent, Found}
 use Rattle.session.specs.declared.choice.Rule.{Rule}
 use Rattle.session.specs.declared.winding.Pass.the-variants.{On, Halted}
+use Rattle.session.proofs.Arrivals.{fits-within}
 use Rattle.session.proofs.Weighing.{few-bullets, pass-counted, pass-countable, weighs, weighable}
 
 -- a run with k steps before it, which carried z words, and the peak q over the states up to its first
@@ -90,10 +89,6 @@ module _ (way : Way) (T : Table) (r : Room) (v : Spot) where
           let p : max (max q (weight T (u .state))) (weight T (u .state)) ≡ max q (weight T (u .state)) = omega arith in
           let y : z + carriedBy way T (m .state) + 0 ≡ z + carriedBy way T (m .state) = omega arith in
           λ i. endedAfter (j i) (p i) (y i) u found)
-
--- A state held fits the slices.
-held-within : {w : List ℕ} {n : ℕ} {se : Declared.Session} {ls ts : List ℕ} {s : State} → TokenAt w n se ls ts s → (r : Room) → room ls ts ≡ r → Fits r s
-held-within {w} {n} {se} {ls} {ts} {s} t r e = subst (λ x. Fits x s) e (held-fits (tableIn w n) (record { session = sessionMeant se; log = ls; tape = ts }) s (t .enters .holds))
 
 -- The outcome of a session that holds the state where the whole run ends.
 module _ (o : Came.Outcome) {w : List ℕ} {n : ℕ} {ls ts : List ℕ} {s : State} (t : TokenAt w n (o .session) ls ts s) (r : Room) (same-room : room ls ts ≡ r) where
@@ -205,7 +200,7 @@ module _ {way : Way} {w : List ℕ} {n : ℕ} {r : Room} {v : Spot} {run : Run} 
           omega (
             arith,
             step-carries-few way (tableIn w n) r (subst (λ x. x .log ≤ longest) same-room (l .token .enters .short-log)) standing (moment u (to .position)) e
-                (held-within (l .token) r same-room) (held-within h r room-there),
+                (fits-within (l .token) same-room) (fits-within h room-there),
           )
 
       pub loop-goes-on : isOn v (p .0) ≡ false → Loop way w n r v run count (lengthenedTo o n to (bulletsAfter rule b) k) (bulletsAfter rule b) ls′ ts′

@@ -27,6 +27,7 @@ use Rattle.session.specs.declared.rules.Arrival as Arrived
 use Rattle.session.specs.declared.rules.Stepped.the-variants as Steps
 use Rattle.session.specs.declared.winding.Before.the-variants.{Ends, Makes}
 use Rattle.session.specs.declared.winding.Pass.the-variants.{On, Halted}
+use Rattle.session.proofs.Arrivals.{fits-within}
 use Rattle.session.proofs.Facing.{token-after, log-facing, tape-facing, next-facing, carried-facing}
 
 -- every rule makes a step
@@ -104,11 +105,7 @@ module _ {w : List ℕ} {n : ℕ} {se : Declared.Session} {ls ts : List ℕ} {s 
       goes-on el et to next i same a =
           let (u, e, token, words) = i in
           let there : TokenAt w n next ls′ ts′ (facing way u) = token-after (subst (λ p. TokenAt w n (arrivedAt p to) ls′ ts′ u) same token) way a in
-          let holds = there .enters .holds in
-          let fits : Fits (room ls ts) (facing way u) = record {
-            log-fits = (let k = holds .log-length in let f = holds .log-fits in omega arith);
-            tape-fits = (let k = holds .tape-length in let f = holds .tape-fits in omega arith);
-          } in
+          let fits : Fits (room ls ts) (facing way u) = fits-within there (λ i. record { log = el i; tape = et i }) in
           let came : nextBy way T here ≡ some (moment (facing way u) (next .position)) =
           next-facing way T s u (sessionMeant (arrivedAt (se .position) to)) e ∙ ap (λ p. some (moment (facing way u) p)) (sym (ap (λ x. x .position) a)) in
           (facing way u, b .2, came, λ c. no-stop-next way T (room ls ts) (suc c) here (b .0 c) _ came fits, there, el, et, words ∙ carried-facing way T s)

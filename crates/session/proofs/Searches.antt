@@ -18,7 +18,7 @@ use Rattle.calls.proofs.Stops.{Fits}
 use Rattle.calls.proofs.Visits.{wind-none, sought, each-sought}
 use Rattle.calls.proofs.Retrace.{backed, again}
 use Rattle.calls.proofs.Nowhere.{nowhere-found}
-use Rattle.calls.proofs.Answers.{laidDown, held-laid-down, held-fits, laid-room, laid-enters}
+use Rattle.calls.proofs.Answers.{enters-fits, laidDown, held-laid-down, laid-room, laid-enters}
 use Rattle.session.specs.Types.{sessionMeant, stopMeant, outcomeMeant}
 use Rattle.session.specs.Steps.{TokenAt, Ready}
 use Rattle.session.specs.Passes.{endedBy, Winds}
@@ -47,7 +47,7 @@ module _ {w : List ℕ} {n : ℕ} {se : Declared.Session} {ls ts : List ℕ} {s 
   good = h .enters .holds .good
 
   fits : Fits r s
-  fits = held-fits T given s (h .enters .holds)
+  fits = enters-fits _ s (h .enters)
 
   -- no spot at all
   pub search-nowhere : (way : Way) (d : Dir) (count : ℕ) → seek way T r (spot 0 d) count here ≡ wind way T r count here
