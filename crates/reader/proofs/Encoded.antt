@@ -1,32 +1,24 @@
--- From a phrase that was read to its code, and from a tree's code to what is answered.
+-- From a phrase that was read to its code.
 use mathlib.Core.Path.{_≡_, refl, sym, ap, _∙_}
 use mathlib.Core.Logic.{inl, inr}
-use mathlib.Core.Bool.{true, false, false≢true}
-use mathlib.Core.Option.{Option, none, some}
-use mathlib.Core.List.{List, [], _∷_, _++_}
-use Prim.Native.Nat.{ℕ, _+_, _*_, _≤_, _<_}
+use mathlib.Core.Bool.{false}
+use mathlib.Core.Option.{none, some}
+use mathlib.Core.List.{List, [], _∷_}
+use Prim.Native.Nat.{ℕ, _+_, _≤_, _<_}
 use native.Mathlib.Omega.{arith}
-use lib.ListN.{length, take, drop, drop-of-length-le, length-append, length-drop}
-use lib.Seq.{sets, sets-eq, take-at}
-use borrow.Author.Tests.{lt-ltb, le-ltb}
-use Rattle.term.specs.Choice.{isNone}
-use Rattle.term.specs.Term.{Term, size}
-use Rattle.term.specs.Table.{tableOf}
+use lib.ListN.{length, drop, drop-of-length-le, length-drop}
+use lib.Seq.{sets, sets-eq}
 use Rattle.text.specs.Tokens.{tokens}
-use Rattle.text.specs.Grammar.{Tree, phraseTree}
+use Rattle.text.specs.Grammar.{phraseTree}
 use Rattle.text.specs.Parse.{isEmpty, parse}
-use Rattle.text.specs.Binding.{nameless}
-use Rattle.text.specs.Reading.{Read, refused}
 use Rattle.reader.specs.Scanning.{gapRun, namesAt, treeCode}
 use Rattle.reader.specs.Answers.{cursor, ReadTo, phraseFrom, phraseCode}
-use Rattle.reader.specs.Layout.{Whole, anyZero}
-use Rattle.reader.specs.Steps.{InCode, CodedTo, answerFor}
+use Rattle.reader.specs.Steps.{CodedTo}
 use Rattle.text.proofs.Tokens.{tokens-nil, tokens-mark}
 use Rattle.text.proofs.Parse.{parse-exactly}
-use Rattle.text.proofs.Size.{few-nodes, size-nodes}
-use Rattle.text.proofs.Binding.{nameless-closed}
+use Rattle.text.proofs.Size.{few-nodes}
 use Rattle.reader.proofs.Scanning.{skip-tokens, no-gap, FirstToken, first-token, name-tokens}
-use Rattle.reader.proofs.Nameless.{tree-code-length, nameless-code, zero-unbound}
+use Rattle.reader.proofs.Nameless.{tree-code-length, tree-codes}
 
 -- A text has no token exactly where it is a gap.
 nothing-left : (s : List ℕ) → length s ≤ gapRun s → tokens s ≡ []
@@ -76,57 +68,11 @@ module _ (text scope code scope′ code′ : List ℕ) (p n end : ℕ)
         phrase = r .value;
         is = text-is h;
         in-code = record {
+          words = codeWords;
           rest = drop (0 + length codeWords) code;
           stands = words-wrote ∙ sets-eq codeWords code 0 (omega arith);
           count = omega (arith, words-next);
           few = omega (arith, words-next);
+          codes = tree-codes (phraseTree (r .value));
         };
       }
-
--- The answer to a tree by its code.
-pub code-holds : {code : List ℕ} {n : ℕ} {t : Tree} → InCode code n t → n ≤ length code
-code-holds {t = t} c = omega (arith, c .count, ap length (c .stands), length-append (treeCode t []) (c .rest))
-
-module _ (code : List ℕ) (n : ℕ) (t : Tree) (c : InCode code n t) (table : List ℕ) where
-  zero-is : anyZero (take n code) ≡ isNone (nameless t [])
-  zero-is = ap anyZero (ap (take n) (c .stands) ∙ take-at (treeCode t []) (c .rest) n (sym (c .count))) ∙ zero-unbound t []
-
-  by-none : (o : Option Term) → isNone o ≡ true → answerFor o table ≡ refused 5 table
-  by-none none e = refl
-  by-none (some u) e = absurd (false≢true e)
-
-  pub unbound-answer : anyZero (take n code) ≡ true → answerFor (nameless t []) table ≡ refused 5 table
-  unbound-answer e = by-none (nameless t []) (sym zero-is ∙ e)
-
-  by-some : (o : Option Term) → isNone o ≡ false → (u : Term) × (o ≡ some u)
-  by-some none e = absurd (false≢true (sym e))
-  by-some (some u) e = (u, refl)
-
-  module _ (e : anyZero (take n code) ≡ false) where
-    named : (u : Term) × (nameless t [] ≡ some u)
-    named = by-some (nameless t []) (sym zero-is ∙ e)
-
-    size-is : size (named .0) ≡ n
-    size-is = omega (arith, size-nodes t [] (named .0) (named .1), tree-code-length t [], c .count)
-
-    pub short-answer : length table < 5 * n → answerFor (nameless t []) table ≡ refused 6 table
-    short-answer h = let s = size-is in rw (named .1, lt-ltb (length table) (5 * size (named .0)) (omega arith))
-
-    pub whole : 5 * n ≤ length table → (u : Term) × Whole code (length table) u
-    whole h = let s = size-is in (
-      named .0,
-      record {
-        rest = c .rest;
-        stands = c .stands ∙ ap (λ ws. ws ++ c .rest) (nameless-code t [] (named .0) (named .1));
-        closed = nameless-closed t [] (named .0) (named .1) .1;
-        few-nodes = omega (arith, c .few);
-        room = omega arith;
-      },
-    )
-
-    pub table-answer : (h : 5 * n ≤ length table) (table′ : List ℕ) → table′ ≡ tableOf (whole h .0) ++ drop (5 * size (whole h .0)) table
-        → _≡_ {A = Read} (record { n = n; refusal = 0; table = table′ }) (answerFor (nameless t []) table)
-    unfolding whole named
-    table-answer h table′ w =
-        let s = size-is in
-        rw (named .1, le-ltb (length table) (5 * size (named .0)) (omega arith)) λ i. record { n = sym s i; refusal = 0; table = w i }

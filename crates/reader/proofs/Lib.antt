@@ -13,5 +13,6 @@ pub mod Parts
 pub mod Laid
 pub mod Nameless
 pub mod Steps
+pub mod Answering
 pub mod Encoded
 pub mod Types

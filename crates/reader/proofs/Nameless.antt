@@ -18,7 +18,9 @@ use Rattle.text.specs.Grammar.{Tree, variable, binder, apply}
 use Rattle.text.specs.Binding.{indexOf, nameless}
 use Rattle.reader.specs.Scanning.{variableWord, treeCode}
 use Rattle.reader.specs.Layout.{anyZero}
+use Rattle.reader.specs.Answering.{Codes}
 use Rattle.text.proofs.Each.{Each, each-bind}
+use Rattle.text.proofs.Binding.{nameless-closed}
 use Rattle.text.proofs.Size.{nodes}
 
 -- a word for each node
@@ -47,7 +49,7 @@ each-code (apply f a) around =
     each-bind (CodeIs a around) (CodeIs (apply f a) around) (nameless a around) (λ b. some (app g b)) (each-code a around) λ b k.
     ap₂ (λ ws vs. 2 ∷ (ws ++ vs)) h k
 
-pub nameless-code : (t : Tree) (around : List Name) (u : Term) → nameless t around ≡ some u → treeCode t around ≡ codeOf u
+nameless-code : (t : Tree) (around : List Name) (u : Term) → nameless t around ≡ some u → treeCode t around ≡ codeOf u
 nameless-code t around u e = subst (Each (CodeIs t around)) e (each-code t around)
 
 -- What makes something of one option, or of two, is none where one of them is.
@@ -59,7 +61,7 @@ none-of-two : {A B C : Type 0} (o : Option A) (q : Option B) (f : A → B → C)
 none-of-two none q f = refl
 none-of-two (some a) q f = none-of-one q (f a)
 
-zero-append : (ws vs : List ℕ) → anyZero (ws ++ vs) ≡ (anyZero ws || anyZero vs)
+pub zero-append : (ws vs : List ℕ) → anyZero (ws ++ vs) ≡ (anyZero ws || anyZero vs)
 zero-append [] vs = refl
 zero-append (w ∷ ws) vs = by-test (eqb w 0) (zero-append ws vs)
   where
@@ -67,7 +69,7 @@ zero-append (w ∷ ws) vs = by-test (eqb w 0) (zero-append ws vs)
     by-test true e = refl
     by-test false e = e
 
-pub zero-unbound : (t : Tree) (around : List Name) → anyZero (treeCode t around) ≡ isNone (nameless t around)
+zero-unbound : (t : Tree) (around : List Name) → anyZero (treeCode t around) ≡ isNone (nameless t around)
 unfolding nameless treeCode
 zero-unbound (variable x) around = by-index (indexOf x around)
   where
@@ -79,6 +81,14 @@ zero-unbound (apply f a) around =
     zero-append (treeCode f around) (treeCode a around)
     ∙ ap₂ (λ s t. s || t) (zero-unbound f around) (zero-unbound a around)
     ∙ sym (none-of-two (nameless f around) (nameless a around) app)
+
+-- It is the code of what the tree means.
+pub tree-codes : (t : Tree) → Codes (treeCode t []) (nameless t [])
+tree-codes t = by-form (nameless t []) refl
+  where
+    by-form : (o : Option Term) → nameless t [] ≡ o → Codes (treeCode t []) o
+    by-form none e = zero-unbound t [] ∙ ap isNone e
+    by-form (some u) e = (nameless-code t [] u e, nameless-closed t [] u e .1)
 
 -- Looking for a word 0 among the first n, from word i on.
 module _ (code : List ℕ) (n i : ℕ) (room : n ≤ length code) where

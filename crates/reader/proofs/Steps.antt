@@ -15,7 +15,8 @@ use Rattle.text.specs.Grammar.{Phrase, phraseTree}
 use Rattle.text.specs.Parse.{parse}
 use Rattle.text.specs.Binding.{nameless}
 use Rattle.text.specs.Reading.{mostBytes, anyForeign, meant, tooShort, readerNumber, refused, laidOut, answer, readOf}
-use Rattle.reader.specs.Steps.{spellingNumber, answerFor}
+use Rattle.reader.specs.Answering.{answerFor}
+use Rattle.reader.specs.Steps.{spellingNumber}
 
 -- Numbers 1 to 3: they come first, and where none of them applies the others are left.
 abbrev firstThree : Bool → Bool → Bool → List (Test ℕ) → List (Test ℕ)
@@ -57,7 +58,7 @@ module _ (text table : List ℕ) where
   pub no-term : 0 ≡ spellingNumber text → parse (tokens text) ≡ none → readOf text table ≡ refused 4 table
   no-term e n = other-three e ∙ rw n
 
-  by-term : (o : Option Term) → answer (first ((false ⇒ 4) ∷ (isNone o ⇒ 5) ∷ (tooShort o table ⇒ 6) ∷ [])) o table ≡ answerFor o table
+  by-term : (o : Option Term) → answer (first ((false ⇒ 4) ∷ (isNone o ⇒ 5) ∷ (tooShort o table ⇒ 6) ∷ [])) o table ≡ answerFor 5 o table
   by-term none = refl
   by-term (some t) = by-test (ltb (length table) (5 * size t))
     where
@@ -65,6 +66,6 @@ module _ (text table : List ℕ) where
       by-test true = refl
       by-test false = refl
 
-  pub a-phrase : 0 ≡ spellingNumber text → (p : Phrase) → parse (tokens text) ≡ some p → readOf text table ≡ answerFor (nameless (phraseTree p) []) table
+  pub a-phrase : 0 ≡ spellingNumber text → (p : Phrase) → parse (tokens text) ≡ some p → readOf text table ≡ answerFor 5 (nameless (phraseTree p) []) table
   unfolding meant
   a-phrase e p h = other-three e ∙ rw h (by-term (nameless (phraseTree p) []))

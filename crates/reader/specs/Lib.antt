@@ -2,4 +2,5 @@ pub mod Scanning
 pub mod Types
 pub mod Layout
 pub mod Answers
+pub mod Answering
 pub mod Steps

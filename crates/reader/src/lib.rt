@@ -1,11 +1,13 @@
 // The reader: the text of a closed term to its table.
 ghost use mathlib.Core.Path.{_≡_};
+ghost use mathlib.Core.Option.{Option};
 ghost use Prim.Native.Nat.{_≤_};
 ghost use lib.ListN.{length};
-ghost use Rattle.text.specs.Grammar.{Tree};
+ghost use Rattle.term.specs.Term.{Term};
 ghost use Rattle.text.specs.Reading.{readOf};
 ghost use Rattle.reader.specs.Types.{readMeant, refusedReading};
-ghost use Rattle.reader.specs.Steps.{spellingNumber, InCode, CodedIs, AnsweredFor};
+ghost use Rattle.reader.specs.Answering.{InCode, AnsweredFor};
+ghost use Rattle.reader.specs.Steps.{spellingNumber, CodedIs};
 use grammar::Got;
 
 mod bytes;
@@ -31,7 +33,7 @@ pub fn read(text: &[u8], table: &mut [u32]) -> Reading
     let mut code = [0u32; 6000];
     let coded = code_of(text, &mut code);
     match coded {
-        Coded::Words(n) => answer_for(&code, n, table),
+        Coded::Words(n) => answer_for(&code, n, 5, table),
         Coded::NoTerm => refused(4),
     }
 }
@@ -86,14 +88,14 @@ fn code_of(text: &[u8], code: &mut [u32]) -> Coded
     }
 }
 
-// Numbers 5 and 6, and the table where neither applies.
-fn answer_for(code: &[u32], n: usize, table: &mut [u32]) -> Reading
-    requires { ⌜ ((t : Tree) × InCode (now code) n t) ⌝ }
-    ensures { λ r. ⌜ AnsweredFor (now (code .entry)) n r (now (table .entry)) (now (table .exit)) ⌝ }
+// The number of a variable without a binder, number 6, and the table where neither applies.
+fn answer_for(code: &[u32], n: usize, unbound: u32, table: &mut [u32]) -> Reading
+    requires { ⌜ ((o : Option Term) × InCode (now code) n o) ⌝ }
+    ensures { λ r. ⌜ AnsweredFor (now (code .entry)) n unbound r (now (table .entry)) (now (table .exit)) ⌝ }
 {
     let count = n as u32;
     if layout::any_zero(code, n) {
-        return refused(5);
+        return refused(unbound);
     }
     if table.len() < 5 * n {
         return refused(6);

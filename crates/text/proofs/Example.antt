@@ -7,7 +7,7 @@ use Rattle.decimal.specs.Decimal.{decimalIn, decimal}
 use Rattle.term.specs.Table.{row, tableIn, kindOf}
 use Rattle.term.specs.Accepted.{partBy, partAt, accepted}
 use Rattle.text.specs.Written.{treeOf, treeText, textOf}
-use Rattle.text.specs.Writing.{tableText, writerNumber, writeOf}
+use Rattle.text.specs.Writing.{tableText, writerNumber, writing, writeOf}
 
 -- its table, as document 01 lists it
 abbrev pub exampleRows : List ℕ
@@ -19,5 +19,5 @@ exampleWritten = 40 ∷ 92 ∷ 118 ∷ 50 ∷ 46 ∷ 118 ∷ 50 ∷ 32 ∷ 118 �
 
 -- into 22 bytes, of which two are left as they were
 pub example-written : writeOf exampleRows 7 (replicate 22 9) ≡ record { len = 20; refusal = 0; text = exampleWritten ++ (9 ∷ 9 ∷ []) }
-unfolding writeOf writerNumber tableText accepted partAt partBy kindOf tableIn textOf treeOf treeText decimal decimalIn
+unfolding writing writerNumber tableText accepted partAt partBy kindOf tableIn textOf treeOf treeText decimal decimalIn
 example-written = refl

@@ -96,7 +96,7 @@ module _ (w : List ℕ) (n : ℕ) (text table : List ℕ) (room : 5 * n ≤ leng
         words-are = ap (λ ws. ws ++ drop (5 * n) table) (sym (A .same));
       }
 
-  by-found : (r : Write) → Finds w n text r → r .refusal ≡ 0 → SameTable (take (r .len) (r .text))
+  by-found : (r : Write) → Finds textOf w n text r → r .refusal ≡ 0 → SameTable (take (r .len) (r .text))
   by-found r (no-table h) e = absurd (omega arith)
   by-found r (no-room A h) e = absurd (omega arith)
   by-found r (fitting A h) e =
@@ -104,7 +104,7 @@ module _ (w : List ℕ) (n : ℕ) (text table : List ℕ) (room : 5 * n ≤ leng
       subst⁻¹ SameTable (take-at s (drop (length s) text) (length s) refl) (reads-same A (h .0))
 
 pub read-back : ReadBack
-read-back w n text table e room = by-found w n text table room (writeOf w n text) (finds w n text) e
+read-back w n text table e room = by-found w n text table room (writeOf w n text) (finds textOf w n text) e
 
 pub one-table : OneTable
 one-table w n u m A B e =

@@ -9,33 +9,33 @@ use lib.ListN.{length}
 use lib.Dec.{ltb}
 use borrow.Author.Tests.{ltb-true, ltb-false}
 use Rattle.term.specs.Choice.{_⇒_, first}
+use Rattle.term.specs.Term.{Term}
 use Rattle.term.specs.Accepted.{Accepted, accepted}
 use Rattle.term.proofs.Accepted.{read-whole, accepts-all, accepts-only, one-term}
 use Rattle.text.specs.Reading.{mostBytes}
-use Rattle.text.specs.Written.{textOf}
-use Rattle.text.specs.Writing.{Write, partText, tableText, unfit, writerNumber, refused, writtenOut, answer, writeOf}
+use Rattle.text.specs.Writing.{Write, partText, tableText, unfit, writerNumber, refused, writtenOut, answer, writing}
 use Rattle.text.specs.WritingExactly.{Fits, Writes, WrittenExactly, SevenExactly, ElevenExactly, RefusedUnwritten}
 use Rattle.text.proofs.Exactly.{neither}
 
-pub table-text : (w : List ℕ) (n : ℕ) (A : Accepted w n) → tableText w n ≡ textOf (A .term)
+pub table-text : (of : Term → List ℕ) (w : List ℕ) (n : ℕ) (A : Accepted w n) → tableText of w n ≡ of (A .term)
 unfolding tableText
-table-text w n A = ap partText (read-whole w n A)
+table-text of w n A = ap (partText of) (read-whole w n A)
 
 -- What is answered, by the tests.
-module _ (w : List ℕ) (n : ℕ) (text : List ℕ) where
-  pub writes-seven : accepted w n ≡ false → writeOf w n text ≡ refused 7 text
-  unfolding writeOf writerNumber
+module _ (of : Term → List ℕ) (w : List ℕ) (n : ℕ) (text : List ℕ) where
+  pub writes-seven : accepted w n ≡ false → writing of w n text ≡ refused 7 text
+  unfolding writing writerNumber
   writes-seven e = rw e
 
   -- past number 7, the text alone decides
-  by-text : (A : Accepted w n) → let s = textOf (A .term) in writeOf w n text ≡ answer (first ((unfit s text ⇒ 11) ∷ [])) s text
-  unfolding writeOf writerNumber
-  by-text A = rw (accepts-all w n A, table-text w n A)
+  by-text : (A : Accepted w n) → let s = of (A .term) in writing of w n text ≡ answer (first ((unfit s text ⇒ 11) ∷ [])) s text
+  unfolding writing writerNumber
+  by-text A = rw (accepts-all w n A, table-text of w n A)
 
-  pub writes-eleven : (A : Accepted w n) → unfit (textOf (A .term)) text ≡ true → writeOf w n text ≡ refused 11 text
+  pub writes-eleven : (A : Accepted w n) → unfit (of (A .term)) text ≡ true → writing of w n text ≡ refused 11 text
   writes-eleven A e = by-text A ∙ rw e
 
-  pub writes-text : (A : Accepted w n) → unfit (textOf (A .term)) text ≡ false → writeOf w n text ≡ writtenOut (textOf (A .term)) text
+  pub writes-text : (A : Accepted w n) → unfit (of (A .term)) text ≡ false → writing of w n text ≡ writtenOut (of (A .term)) text
   writes-text A e = by-text A ∙ rw e
 
 -- A text that number 11 refuses is too long for one of the two, and any other fits.
@@ -59,22 +59,22 @@ not-both : (s text : List ℕ) → TooLong s text → Fits s text → ⊥
 not-both s text (inl l) h = omega (arith, h .0)
 not-both s text (inr l) h = omega (arith, h .1)
 
-module _ (w : List ℕ) (n : ℕ) (text : List ℕ) where
+module _ (of : Term → List ℕ) (w : List ℕ) (n : ℕ) (text : List ℕ) where
   -- what the writer finds, in the order of the tests, and what it then answers
   pub data Finds : Write → Type 0 where
     no-table : (Accepted w n → ⊥) → Finds (refused 7 text)
-    no-room : (A : Accepted w n) → TooLong (textOf (A .term)) text → Finds (refused 11 text)
-    fitting : (A : Accepted w n) → Fits (textOf (A .term)) text → Finds (writtenOut (textOf (A .term)) text)
+    no-room : (A : Accepted w n) → TooLong (of (A .term)) text → Finds (refused 11 text)
+    fitting : (A : Accepted w n) → Fits (of (A .term)) text → Finds (writtenOut (of (A .term)) text)
 
-  by-room : (A : Accepted w n) (b : Bool) → unfit (textOf (A .term)) text ≡ b → Finds (writeOf w n text)
-  by-room A true e = subst⁻¹ Finds (writes-eleven w n text A e) (no-room A (too-long (textOf (A .term)) text e))
-  by-room A false e = subst⁻¹ Finds (writes-text w n text A e) (fitting A (fitted (textOf (A .term)) text e))
+  by-room : (A : Accepted w n) (b : Bool) → unfit (of (A .term)) text ≡ b → Finds (writing of w n text)
+  by-room A true e = subst⁻¹ Finds (writes-eleven of w n text A e) (no-room A (too-long (of (A .term)) text e))
+  by-room A false e = subst⁻¹ Finds (writes-text of w n text A e) (fitting A (fitted (of (A .term)) text e))
 
-  by-table : (b : Bool) → accepted w n ≡ b → Finds (writeOf w n text)
+  by-table : (b : Bool) → accepted w n ≡ b → Finds (writing of w n text)
   by-table true e = let A = accepts-only w n e in by-room A _ refl
-  by-table false e = subst⁻¹ Finds (writes-seven w n text e) (no-table (λ A. false≢true (sym e ∙ accepts-all w n A)))
+  by-table false e = subst⁻¹ Finds (writes-seven of w n text e) (no-table (λ A. false≢true (sym e ∙ accepts-all w n A)))
 
-  pub finds : Finds (writeOf w n text)
+  pub finds : Finds (writing of w n text)
   finds = by-table _ refl
 
   seven : (r : Write) → Finds r → (r .refusal ≡ 7) ↔ (Accepted w n → ⊥)
@@ -82,10 +82,10 @@ module _ (w : List ℕ) (n : ℕ) (text : List ℕ) where
   seven r (no-room A h) = (λ e. absurd (omega arith), λ i. absurd (i A))
   seven r (fitting A h) = (λ e. absurd (omega arith), λ i. absurd (i A))
 
-  eleven : (r : Write) → Finds r → (r .refusal ≡ 11) ↔ ((A : Accepted w n) × TooLong (textOf (A .term)) text)
+  eleven : (r : Write) → Finds r → (r .refusal ≡ 11) ↔ ((A : Accepted w n) × TooLong (of (A .term)) text)
   eleven r (no-table h) = (λ e. absurd (omega arith), λ i. absurd (h (i .0)))
   eleven r (no-room A h) = (λ e. (A, h), λ i. refl)
-  eleven r (fitting A h) = (λ e. absurd (omega arith), λ i. absurd (not-both (textOf (A .term)) text (subst (λ t. TooLong (textOf t) text) (one-term w n (i .0) A) (i .1)) h))
+  eleven r (fitting A h) = (λ e. absurd (omega arith), λ i. absurd (not-both (of (A .term)) text (subst (λ t. TooLong (of t) text) (one-term w n (i .0) A) (i .1)) h))
 
   unwritten : (r : Write) → Finds r → (r .refusal ≡ 0 → ⊥) → (r .len ≡ 0) × (r .text ≡ text)
   unwritten r (no-table h) i = (refl, refl)
@@ -95,27 +95,27 @@ module _ (w : List ℕ) (n : ℕ) (text : List ℕ) where
   same-refusal : {r s : Write} → r ≡ s → r .refusal ≡ s .refusal
   same-refusal e = ap (λ (a : Write). a .refusal) e
 
-  writes : (r : Write) (len : ℕ) (bytes : List ℕ) → Finds r → (r ≡ record { len = len; refusal = 0; text = bytes }) ↔ Writes w n text len bytes
+  writes : (r : Write) (len : ℕ) (bytes : List ℕ) → Finds r → (r ≡ record { len = len; refusal = 0; text = bytes }) ↔ Writes of w n text len bytes
   writes r len bytes (no-table h) = (λ e. absurd (omega (arith, same-refusal e)), λ i. absurd (h (i .accepted-table)))
   writes r len bytes (no-room A h) = (
     λ e. absurd (omega (arith, same-refusal e)),
-    λ i. absurd (not-both (textOf (A .term)) text h (subst (λ t. Fits (textOf t) text) (one-term w n (i .accepted-table) A) (i .fits))),
+    λ i. absurd (not-both (of (A .term)) text h (subst (λ t. Fits (of t) text) (one-term w n (i .accepted-table) A) (i .fits))),
   )
   writes r len bytes (fitting A h) = (
     λ e.
-        let len-is : len ≡ length (textOf (A .term)) = sym (ap (λ (a : Write). a .len) e) in
+        let len-is : len ≡ length (of (A .term)) = sym (ap (λ (a : Write). a .len) e) in
         record { accepted-table = A; fits = h; len-is = len-is; bytes-are = sym (ap (λ (a : Write). a .text) e) ∙ rw len-is },
     λ i. rw (i .bytes-are, i .len-is, one-term w n (i .accepted-table) A),
   )
 
-pub seven-exactly : SevenExactly
-seven-exactly w n text = seven w n text (writeOf w n text) (finds w n text)
+pub seven-exactly : (of : Term → List ℕ) → SevenExactly of
+seven-exactly of w n text = seven of w n text (writing of w n text) (finds of w n text)
 
-pub eleven-exactly : ElevenExactly
-eleven-exactly w n text = eleven w n text (writeOf w n text) (finds w n text)
+pub eleven-exactly : (of : Term → List ℕ) → ElevenExactly of
+eleven-exactly of w n text = eleven of w n text (writing of w n text) (finds of w n text)
 
-pub refused-unwritten : RefusedUnwritten
-refused-unwritten w n text = unwritten w n text (writeOf w n text) (finds w n text)
+pub refused-unwritten : (of : Term → List ℕ) → RefusedUnwritten of
+refused-unwritten of w n text = unwritten of w n text (writing of w n text) (finds of w n text)
 
-pub written-exactly : WrittenExactly
-written-exactly w n text len bytes = writes w n text (writeOf w n text) len bytes (finds w n text)
+pub written-exactly : (of : Term → List ℕ) → WrittenExactly of
+written-exactly of w n text len bytes = writes of w n text (writing of w n text) len bytes (finds of w n text)

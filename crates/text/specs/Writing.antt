@@ -6,6 +6,7 @@ use Prim.Native.Nat.{ℕ}
 use lib.ListN.{length, drop}
 use lib.Dec.{ltb}
 use Rattle.term.specs.Choice.{_⇒_, first}
+use Rattle.term.specs.Term.{Term}
 use Rattle.term.specs.Table.{tableIn}
 use Rattle.term.specs.Accepted.{Part, partAt, accepted}
 use Rattle.text.specs.Reading.{mostBytes}
@@ -17,21 +18,22 @@ pub record Write : Type 0 where
   pub refusal : ℕ  -- 0 for none
   pub text : List ℕ
 
--- the text of the term that a table is read as; nothing where it is read as none, which number 7 has refused before its text matters
-abbrev pub partText : Option Part → List ℕ
-partText none = []
-partText (some q) = textOf (q .term)
+-- By what the text of a term is (`of`): the text of the term that a table is read as; nothing where it is read as none, which number 7 has refused before its
+-- text matters.
+abbrev pub partText : (Term → List ℕ) → Option Part → List ℕ
+partText of none = []
+partText of (some q) = of (q .term)
 
-unfoldable pub tableText : List ℕ → ℕ → List ℕ
-tableText w n = partText (partAt n (tableIn w n) [] 1 0 0)
+unfoldable pub tableText : (Term → List ℕ) → List ℕ → ℕ → List ℕ
+tableText of w n = partText of (partAt n (tableIn w n) [] 1 0 0)
 
 -- "over 3,000 bytes or over the lent buffer"
 abbrev pub unfit : List ℕ → List ℕ → Bool
 unfit s text = ltb mostBytes (length s) || ltb (length text) (length s)
 
 -- "Turned away: 11, after 7"
-unfoldable pub writerNumber : List ℕ → ℕ → List ℕ → Option ℕ
-writerNumber w n text = first ((not (accepted w n) ⇒ 7) ∷ (unfit (tableText w n) text ⇒ 11) ∷ [])
+unfoldable pub writerNumber : (Term → List ℕ) → List ℕ → ℕ → List ℕ → Option ℕ
+writerNumber of w n text = first ((not (accepted w n) ⇒ 7) ∷ (unfit (tableText of w n) text ⇒ 11) ∷ [])
 
 -- "Any number that a later call adds to its answer is 0 in a refusal", and no lent byte differs.
 abbrev pub refused : ℕ → List ℕ → Write
@@ -45,5 +47,9 @@ abbrev pub answer : Option ℕ → List ℕ → List ℕ → Write
 answer (some k) s text = refused k text
 answer none s text = writtenOut s text
 
-unfoldable pub writeOf : List ℕ → ℕ → List ℕ → Write
-writeOf w n text = answer (writerNumber w n text) (tableText w n) text
+unfoldable pub writing : (Term → List ℕ) → List ℕ → ℕ → List ℕ → Write
+writing of w n text = answer (writerNumber of w n text) (tableText of w n) text
+
+-- the text with names
+abbrev pub writeOf : List ℕ → ℕ → List ℕ → Write
+writeOf w n text = writing textOf w n text

@@ -40,15 +40,15 @@ module _ (w : List ℕ) (n : ℕ) (A : Accepted w n) where
 
   module _ (text : List ℕ) (len : ℕ) (len-is : len ≡ length (textOf (A .term))) where
     pub too-long : mostBytes < len → refused 11 text ≡ writeOf w n text
-    too-long h = sym (writes-eleven w n text A (rw (lt-ltb mostBytes (length (textOf (A .term))) (omega arith))))
+    too-long h = sym (writes-eleven textOf w n text A (rw (lt-ltb mostBytes (length (textOf (A .term))) (omega arith))))
 
     pub too-much : len ≤ mostBytes → length text < len → refused 11 text ≡ writeOf w n text
     too-much l h =
-        sym (writes-eleven w n text A (rw (le-ltb mostBytes (length (textOf (A .term))) (omega arith), lt-ltb (length text) (length (textOf (A .term))) (omega arith))))
+        sym (writes-eleven textOf w n text A (rw (le-ltb mostBytes (length (textOf (A .term))) (omega arith), lt-ltb (length text) (length (textOf (A .term))) (omega arith))))
 
     pub fitting : {r : ℕ} {text′ : List ℕ} → len ≤ mostBytes → len ≤ length text → PartPut w n 1 false 0 text r text′
         → record { len = len; refusal = 0; text = text′ } ≡ writeOf w n text
     fitting {r} {text′} l h x =
         let e = put-whole text (textOf (A .term)) r text′ (omega arith) (whole-put x) in
         rw (e, len-is)
-        (sym (writes-text w n text A (rw (le-ltb mostBytes (length (textOf (A .term))) (omega arith), le-ltb (length text) (length (textOf (A .term))) (omega arith)))))
+        (sym (writes-text textOf w n text A (rw (le-ltb mostBytes (length (textOf (A .term))) (omega arith), le-ltb (length text) (length (textOf (A .term))) (omega arith)))))

@@ -1,7 +1,9 @@
 -- `read` answers what the definition of reading answers, and leaves what it leaves.
 use mathlib.Core.Path.{sym, ap, _∙_}
+use mathlib.Core.List.{[]}
 use native.Mathlib.Omega.{arith}
 use Rattle.text.specs.Grammar.{phraseTree}
+use Rattle.text.specs.Binding.{nameless}
 use Rattle.reader.specs.Types.{readMeant}
 use Rattle.reader.proofs.Steps.{misspelled, few-bytes, no-term, a-phrase}
 use borrow.Author.Needs.{needs}
@@ -37,7 +39,7 @@ slice-aggregate-answer-for c = search needs
 answer-for-requires : tie.Need-answer-for-requires
 answer-for-requires c κs =
     let k = rw (c .before .before .before .coded .given .1) at (c .before .before .before .before .before .before .code-of .ensures) in
-    (phraseTree (k .phrase), k .in-code)
+    (nameless (phraseTree (k .phrase)) [], k .in-code)
 
 enum-told : tie.Need-enum-told
 enum-told c = search needs
@@ -52,7 +54,7 @@ returns-2 : tie.Need-returns-2
 returns-2 c =
     let a = c .before .before .before .before .before .before .before .before .before .before .before .before .before .before .before .args in
     let k = rw (c .before .before .before .before .before .before .coded .given .1) at (c .before .before .before .before .before .before .before .before .before .code-of .ensures) in
-    c .before .before .answer-for .ensures (phraseTree (k .phrase)) (k .in-code)
+    c .before .before .answer-for .ensures (nameless (phraseTree (k .phrase)) []) (k .in-code)
     ∙ sym (a-phrase (a .text .now) (a .table .now) (sym (c .before .before .before .before .before .before .before .before .before .before .before .if1 .left) ∙ c .before .before .before .before .before .before .before .before .before .before .before .before .spelling-number .ensures) (k .phrase) (k .is))
 
 returns-3 : tie.Need-returns-3

@@ -7,6 +7,7 @@ use borrow.Author.Needs.{needs}
 use borrow.Author.Tests.{not-true, not-false}
 use Rattle.term.specs.Accepted.{Accepted}
 use Rattle.term.proofs.Accepted.{accepts-only}
+use Rattle.text.specs.Written.{textOf}
 use Rattle.text.proofs.Writing.{writes-seven}
 use Rattle.writer.proofs.Whole.{whole-puttable, measured, untouched, too-long, too-much, fitting}
 use Rattle.writer.proofs.write.Statement.{statement}
@@ -15,7 +16,7 @@ use Rattle.writer.proofs.write.Tie as tie
 returns : tie.Need-returns
 returns c =
     let a = c .before .before .before .before .before .args in
-    rw (c .refused .ensures) (sym (writes-seven (a .table .now) (a .n) (a .text .now) (sym (c .before .before .accepts .ensures) ∙ not-true _ (c .before .if1 .taken))))
+    rw (c .refused .ensures) (sym (writes-seven textOf (a .table .now) (a .n) (a .text .now) (sym (c .before .before .accepts .ensures) ∙ not-true _ (c .before .if1 .taken))))
 
 -- Past the first test the table is accepted.
 accepted-table : (e : tie.Else1) → Accepted (e .before .before .before .before .args .table .now) (e .before .before .before .before .args .n)
