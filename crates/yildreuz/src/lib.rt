@@ -12,6 +12,7 @@ ghost use Rattle.yildreuz.specs.Given.{moveMeant};
 
 mod numbers;
 mod parts;
+mod texts;
 
 use face::HostOpening;
 use face::HostOutcome;
@@ -32,17 +33,15 @@ use parts::top_size;
 use session::Dir;
 use session::Outcome;
 use session::Session;
+use texts::reading_told;
+use texts::written_told;
 
 // The reader's answer, and the table slice as it leaves it.
 #[no_mangle]
 pub extern "C" fn yildreuz_read(text: &[u8], table: &mut [u32]) -> HostReading
     ensures { λ r. ⌜ (r, now (table .exit)) ≡ readTold (readOf (now (text .entry)) (now (table .entry))) ⌝ }
 {
-    let r = reader::read(text, table);
-    HostReading {
-        n: r.n,
-        refusal: r.refusal,
-    }
+    reading_told(reader::read(text, table))
 }
 
 // The writer's answer, and the lent bytes as it leaves them.
@@ -50,11 +49,7 @@ pub extern "C" fn yildreuz_read(text: &[u8], table: &mut [u32]) -> HostReading
 pub extern "C" fn yildreuz_write(table: &[u32], n: u32, text: &mut [u8]) -> HostWritten
     ensures { λ r. ⌜ (r, now (text .exit)) ≡ writeTold (writeOf (now (table .entry)) n (now (text .entry))) ⌝ }
 {
-    let w = writer::write(table, n, text);
-    HostWritten {
-        len: w.len,
-        refusal: w.refusal,
-    }
+    written_told(writer::write(table, n, text))
 }
 
 // Open's answer, its session in numbers, and both slices as it leaves them. The others the same.

@@ -5,14 +5,8 @@ use Rattle.face.specs.Told.{readTold}
 use Rattle.yildreuz.proofs.yildreuz_read.Statement.{statement}
 use Rattle.yildreuz.proofs.yildreuz_read.Tie as tie
 
-read-requires : tie.Need-read-requires
-read-requires c κs = search needs
-
-same-length : tie.Need-same-length
-same-length c = search needs
-
 returns : tie.Need-returns
-returns c = ap readTold (c .before .before .read .ensures)
+returns c = rw (c .reading-told .ensures) (ap readTold (c .before .before .before .read .ensures))
 
 pub yildreuz-read-spec : {M : Type 1} → statement M
-yildreuz-read-spec = tie.close (tie.spec read-requires same-length returns)
+yildreuz-read-spec = tie.close (tie.spec (λ c κs. search needs) (λ c κs. search needs) (λ c. search needs) returns)

@@ -6,7 +6,7 @@ use Rattle.yildreuz.proofs.yildreuz_write.Statement.{statement}
 use Rattle.yildreuz.proofs.yildreuz_write.Tie as tie
 
 returns : tie.Need-returns
-returns c = ap writeTold (c .before .before .write .ensures)
+returns c = rw (c .written-told .ensures) (ap writeTold (c .before .before .before .write .ensures))
 
 pub yildreuz-write-spec : {M : Type 1} → statement M
-yildreuz-write-spec = tie.close (tie.spec (λ c κs. search needs) (λ c. search needs) returns)
+yildreuz-write-spec = tie.close (tie.spec (λ c κs. search needs) (λ c κs. search needs) (λ c. search needs) returns)
