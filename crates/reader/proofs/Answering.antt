@@ -1,22 +1,32 @@
 -- The answer to what a text means, by its code: what `answer_for` is shown by.
 use mathlib.Core.Path.{_≡_, refl, sym, ap, ap₂, _∙_, subst}
-use mathlib.Core.Bool.{true, false, _||_, false≢true}
+use mathlib.Core.Bool.{Bool, true, false, _||_, cond, false≢true}
 use mathlib.Core.Option.{Option, none, some}
-use mathlib.Core.List.{List, _++_}
+use mathlib.Core.List.{List, [], _∷_, _++_}
 use Prim.Native.Nat.{ℕ, _+_, _*_, _≤_, _<_}
 use native.Mathlib.Omega.{arith}
 use lib.ListN.{length, take, drop, length-append}
 use lib.Seq.{take-at}
+use lib.Dec.{ltb}
 use borrow.Author.Tests.{ne-eqb, lt-ltb, le-ltb}
-use Rattle.term.specs.Choice.{isNone}
+use Rattle.term.specs.Choice.{_⇒_, first, isNone}
 use Rattle.term.specs.Term.{Term, var, lam, app, size, Closed}
 use Rattle.term.specs.Table.{tableOf}
 use Rattle.term.specs.Code.{codeOf}
-use Rattle.text.specs.Reading.{Read, refused}
+use Rattle.text.specs.Reading.{Read, tooShort, refused, laidOut, answer}
 use Rattle.reader.specs.Layout.{Whole, anyZero}
 use Rattle.reader.specs.Answering.{Codes, InCode, answerFor}
 use Rattle.reader.proofs.Parts.{code-length}
 use Rattle.reader.proofs.Nameless.{zero-append}
+
+-- The last two numbers of a reading, whatever comes before them.
+pub last-two : (k : ℕ) (o : Option Term) (table : List ℕ) → answer (first ((isNone o ⇒ k) ∷ (tooShort o table ⇒ 6) ∷ [])) o table ≡ answerFor k o table
+last-two k none table = refl
+last-two k (some t) table = by-test (ltb (length table) (5 * size t))
+  where
+    by-test : (s : Bool) → answer (first ((s ⇒ 6) ∷ [])) (some t) table ≡ cond s (refused 6 table) (laidOut t table)
+    by-test true = refl
+    by-test false = refl
 
 -- The code of a term has no word 0.
 pub code-bound : (t : Term) → anyZero (codeOf t) ≡ false

@@ -12,7 +12,7 @@ pub mod Descent
 pub mod Parts
 pub mod Laid
 pub mod Nameless
-pub mod Steps
 pub mod Answering
+pub mod Steps
 pub mod Encoded
 pub mod Types

@@ -1,22 +1,22 @@
 -- The steps of a reading make up the whole: numbers 1 to 3, then number 4, then what is answered to a tree.
 use mathlib.Core.Path.{_≡_, refl, sym, ap, _∙_}
-use mathlib.Core.Bool.{Bool, true, false, cond}
-use mathlib.Core.Option.{Option, none, some, Option·getD}
+use mathlib.Core.Bool.{Bool, true, false}
+use mathlib.Core.Option.{none, some, Option·getD}
 use mathlib.Core.List.{List, [], _∷_}
-use Prim.Native.Nat.{ℕ, _*_, _≤_}
+use Prim.Native.Nat.{ℕ, _≤_}
 use native.Mathlib.Omega.{arith}
 use lib.ListN.{length}
 use lib.Dec.{ltb}
 use borrow.Author.Tests.{ltb-false}
 use Rattle.term.specs.Choice.{Test, _⇒_, first, isNone}
-use Rattle.term.specs.Term.{Term, size}
 use Rattle.text.specs.Tokens.{tokens, anyBadName}
 use Rattle.text.specs.Grammar.{Phrase, phraseTree}
 use Rattle.text.specs.Parse.{parse}
 use Rattle.text.specs.Binding.{nameless}
-use Rattle.text.specs.Reading.{mostBytes, anyForeign, meant, tooShort, readerNumber, refused, laidOut, answer, readOf}
+use Rattle.text.specs.Reading.{mostBytes, anyForeign, meant, tooShort, readerNumber, refused, answer, readOf}
 use Rattle.reader.specs.Answering.{answerFor}
 use Rattle.reader.specs.Steps.{spellingNumber}
+use Rattle.reader.proofs.Answering.{last-two}
 
 -- Numbers 1 to 3: they come first, and where none of them applies the others are left.
 abbrev firstThree : Bool → Bool → Bool → List (Test ℕ) → List (Test ℕ)
@@ -58,14 +58,6 @@ module _ (text table : List ℕ) where
   pub no-term : 0 ≡ spellingNumber text → parse (tokens text) ≡ none → readOf text table ≡ refused 4 table
   no-term e n = other-three e ∙ rw n
 
-  by-term : (o : Option Term) → answer (first ((false ⇒ 4) ∷ (isNone o ⇒ 5) ∷ (tooShort o table ⇒ 6) ∷ [])) o table ≡ answerFor 5 o table
-  by-term none = refl
-  by-term (some t) = by-test (ltb (length table) (5 * size t))
-    where
-      by-test : (s : Bool) → answer (first ((s ⇒ 6) ∷ [])) (some t) table ≡ cond s (refused 6 table) (laidOut t table)
-      by-test true = refl
-      by-test false = refl
-
   pub a-phrase : 0 ≡ spellingNumber text → (p : Phrase) → parse (tokens text) ≡ some p → readOf text table ≡ answerFor 5 (nameless (phraseTree p) []) table
   unfolding meant
-  a-phrase e p h = other-three e ∙ rw h (by-term (nameless (phraseTree p) []))
+  a-phrase e p h = other-three e ∙ rw h (last-two 5 (nameless (phraseTree p) []) table)
