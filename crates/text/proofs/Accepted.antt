@@ -1,14 +1,14 @@
 -- What the reader lays out is an accepted table, with at most a node for each byte of the text.
-use mathlib.Core.Path.{_≡_, ap, _∙_, subst⁻¹}
+use mathlib.Core.Path.{_≡_, refl, sym, ap, _∙_, subst⁻¹}
 use mathlib.Core.List.{List, [], _++_}
 use Prim.Native.Nat.{ℕ, _*_, _≤_}
 use native.Mathlib.Omega.{arith}
 use lib.ListN.{length, take, drop, length-append}
 use lib.Seq.{take-at}
-use Rattle.term.specs.Term.{Term, size}
+use Rattle.term.specs.Term.{Term, size, Closed}
 use Rattle.term.specs.Table.{tableOf}
-use Rattle.term.specs.Accepted.{Accepted}
-use Rattle.term.proofs.Rows.{rows-length}
+use Rattle.term.specs.Accepted.{mostNodes, Accepted}
+use Rattle.term.proofs.Rows.{size-positive, rows-length}
 use Rattle.term.proofs.Accepted.{table-closed}
 use Rattle.text.specs.Exactly.{Means, Accepts}
 use Rattle.text.proofs.Size.{nodes, few-nodes, size-nodes}
@@ -18,10 +18,10 @@ table-length : (t : Term) → length (tableOf t) ≡ 5 * size t
 unfolding tableOf
 table-length t = rows-length t [] 1 0 0
 
-table-first : (t : Term) (rest words : List ℕ) → words ≡ tableOf t ++ rest → take (5 * size t) words ≡ tableOf t
+pub table-first : (t : Term) (rest words : List ℕ) → words ≡ tableOf t ++ rest → take (5 * size t) words ≡ tableOf t
 table-first t rest words e = ap (take (5 * size t)) e ∙ take-at (tableOf t) rest (5 * size t) (table-length t)
 
-table-long : (t : Term) (rest words : List ℕ) → words ≡ tableOf t ++ rest → 5 * size t ≤ length words
+pub table-long : (t : Term) (rest words : List ℕ) → words ≡ tableOf t ++ rest → 5 * size t ≤ length words
 table-long t rest words e = omega (arith, ap length e, length-append (tableOf t) rest, table-length t)
 
 pub means-few : (text : List ℕ) (t : Term) → Means text t → size t ≤ length text
@@ -32,6 +32,17 @@ means-few text t m =
       ap nodes (m .derives .tree-is),
       few-nodes text (m .derives .phrase) (m .derives .spells),
     )
+
+-- The table of a closed term, before any words, is accepted.
+abbrev pub laidAccepted : (t : Term) → Closed t → size t ≤ mostNodes → (rest : List ℕ) → Accepted (tableOf t ++ rest) (size t)
+laidAccepted t c few rest = record {
+  some-node = size-positive t;
+  few-nodes = few;
+  long = table-long t rest (tableOf t ++ rest) refl;
+  term = t;
+  closed = c;
+  same = sym (table-first t rest (tableOf t ++ rest) refl);
+}
 
 pub text-accepted : (text table : List ℕ) (n : ℕ) (words : List ℕ) → Accepts text table n words → Accepted words n × (n ≤ length text)
 text-accepted text table n words a =

@@ -54,7 +54,7 @@ none-bad (name x ∷ ts) = (
 )
 
 -- what the reader finds, in the order of the tests, and what it then answers
-data Finds (text table : List ℕ) : Read → Type 0 where
+pub data Finds (text table : List ℕ) : Read → Type 0 where
   too-long : mostBytes < length text → Finds text table (refused 1 table)
   foreign-byte : length text ≤ mostBytes → (NoForeign text → ⊥) → Finds text table (refused 2 table)
   bad-name : length text ≤ mostBytes → NoForeign text → (GoodNames (tokens text) → ⊥) → Finds text table (refused 3 table)
@@ -97,7 +97,7 @@ module _ (text table : List ℕ) where
   by-tests false false false (some p) (some t) false ea eb ec eo em ed =
       rw (ea, eb, ec, eo, em, ed) (a-term (spelled-by ea eb ec) t (meant-by p t eo em) (ltb-false (length table) (5 * size t) ed))
 
-  finds : Finds text table (readOf text table)
+  pub finds : Finds text table (readOf text table)
   finds = by-tests _ _ _ _ _ _ refl refl refl refl refl refl
 
 -- a text has one tree and one meaning, which is closed

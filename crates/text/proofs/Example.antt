@@ -1,13 +1,18 @@
--- Document 01's example, written: `(\x.x x)(\y.y)` becomes `(\v2.v2 v2) (\v6.v6)`.
+-- Document 01's example, written: `(\x.x x)(\y.y)` becomes `(\v2.v2 v2) (\v6.v6)`, and in numbers `@ \ @ 0 0 \ 0`, which is read as its table.
 use mathlib.Core.Path.{_≡_, refl}
 use mathlib.Core.List.{List, [], _∷_, _++_}
 use Prim.Native.Nat.{ℕ}
 use lib.ListN.{replicate}
 use Rattle.decimal.specs.Decimal.{decimalIn, decimal}
-use Rattle.term.specs.Table.{row, tableIn, kindOf}
+use Rattle.term.specs.Table.{row, rowsOf, tableOf, tableIn, kindOf}
 use Rattle.term.specs.Accepted.{partBy, partAt, accepted}
+use Rattle.text.specs.Bytes.{classOf}
 use Rattle.text.specs.Written.{treeOf, treeText, textOf}
 use Rattle.text.specs.Writing.{tableText, writerNumber, writing, writeOf}
+use Rattle.text.specs.NumberGrammar.{numberText}
+use Rattle.text.specs.NumberParse.{digitsFirst, phraseAt, parseNumbers}
+use Rattle.text.specs.NumberReading.{numbersMeant, numbersNumber, readNumbersOf}
+use Rattle.text.specs.Dialects.{writeNumbersOf}
 
 -- its table, as document 01 lists it
 abbrev pub exampleRows : List ℕ
@@ -21,3 +26,16 @@ exampleWritten = 40 ∷ 92 ∷ 118 ∷ 50 ∷ 46 ∷ 118 ∷ 50 ∷ 32 ∷ 118 �
 pub example-written : writeOf exampleRows 7 (replicate 22 9) ≡ record { len = 20; refusal = 0; text = exampleWritten ++ (9 ∷ 9 ∷ []) }
 unfolding writing writerNumber tableText accepted partAt partBy kindOf tableIn textOf treeOf treeText decimal decimalIn
 example-written = refl
+
+-- @ space \ space @ space 0 space 0 space \ space 0
+abbrev pub exampleNumbers : List ℕ
+exampleNumbers = 64 ∷ 32 ∷ 92 ∷ 32 ∷ 64 ∷ 32 ∷ 48 ∷ 32 ∷ 48 ∷ 32 ∷ 92 ∷ 32 ∷ 48 ∷ []
+
+pub example-numbers-written : writeNumbersOf exampleRows 7 (replicate 15 9) ≡ record { len = 13; refusal = 0; text = exampleNumbers ++ (9 ∷ 9 ∷ []) }
+unfolding writing writerNumber tableText accepted partAt partBy kindOf tableIn numberText decimal decimalIn
+example-numbers-written = refl
+
+-- into 36 words, of which one is left as it was
+pub example-numbers-read : readNumbersOf exampleNumbers (replicate 36 9) ≡ record { n = 7; refusal = 0; table = exampleRows ++ (9 ∷ []) }
+unfolding readNumbersOf numbersNumber numbersMeant parseNumbers phraseAt digitsFirst classOf tableOf rowsOf
+example-numbers-read = refl

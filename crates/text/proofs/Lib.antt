@@ -15,3 +15,9 @@ pub mod NodeNames
 pub mod Fewest
 pub mod Writing
 pub mod ReadBack
+pub mod NumberGrammar
+pub mod NumberParse
+pub mod NumbersRead
+pub mod Dialects
+pub mod Converting
+pub mod ThereAndBack

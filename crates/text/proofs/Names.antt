@@ -24,7 +24,7 @@ use Rattle.text.proofs.Size.{nodes, size-nodes}
 use Rattle.text.proofs.Written.{Names, IsName, text-derives}
 
 -- A digit is a byte of a name.
-digit-class : (b : ℕ) → 48 ≤ b → b ≤ 57 → classOf b ≡ digit
+pub digit-class : (b : ℕ) → 48 ≤ b → b ≤ 57 → classOf b ≡ digit
 unfolding classOf
 digit-class b l u = rw (lt-leb 97 b (omega arith), le-leb 48 b l, le-leb b 57 u)
 

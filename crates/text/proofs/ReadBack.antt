@@ -72,7 +72,7 @@ tree-good (apply f a) g =
     (enclosed-good (functionNeeds f) (treeTokens f) (tree-good f (g .0)))
     (enclosed-good (argumentNeeds a) (treeTokens a) (tree-good a (g .1)))
 
-text-spelled : (t : Term) → Closed t → size t ≤ mostNodes → length (textOf t) ≤ mostBytes → Spelled (textOf t)
+pub text-spelled : (t : Term) → Closed t → size t ≤ mostNodes → length (textOf t) ≤ mostBytes → Spelled (textOf t)
 unfolding textOf
 text-spelled t closed few short = record {
   few-bytes = short;

@@ -28,7 +28,7 @@ module _ (of : Term → List ℕ) (w : List ℕ) (n : ℕ) (text : List ℕ) whe
   writes-seven e = rw e
 
   -- past number 7, the text alone decides
-  by-text : (A : Accepted w n) → let s = of (A .term) in writing of w n text ≡ answer (first ((unfit s text ⇒ 11) ∷ [])) s text
+  pub by-text : (A : Accepted w n) → let s = of (A .term) in writing of w n text ≡ answer (first ((unfit s text ⇒ 11) ∷ [])) s text
   unfolding writing writerNumber
   by-text A = rw (accepts-all w n A, table-text of w n A)
 
@@ -39,7 +39,7 @@ module _ (of : Term → List ℕ) (w : List ℕ) (n : ℕ) (text : List ℕ) whe
   writes-text A e = by-text A ∙ rw e
 
 -- A text that number 11 refuses is too long for one of the two, and any other fits.
-abbrev TooLong : List ℕ → List ℕ → Type 0
+abbrev pub TooLong : List ℕ → List ℕ → Type 0
 TooLong s text = (mostBytes < length s) ⊎ (length text < length s)
 
 by-length : (s text : List ℕ) (a b : Bool) → ltb mostBytes (length s) ≡ a → ltb (length text) (length s) ≡ b → (a || b) ≡ true → TooLong s text
@@ -47,15 +47,15 @@ by-length s text true b e f h = inl (ltb-true mostBytes (length s) e)
 by-length s text false true e f h = inr (ltb-true (length text) (length s) f)
 by-length s text false false e f h = absurd (false≢true h)
 
-too-long : (s text : List ℕ) → unfit s text ≡ true → TooLong s text
+pub too-long : (s text : List ℕ) → unfit s text ≡ true → TooLong s text
 too-long s text e = by-length s text _ _ refl refl e
 
-fitted : (s text : List ℕ) → unfit s text ≡ false → Fits s text
+pub fitted : (s text : List ℕ) → unfit s text ≡ false → Fits s text
 fitted s text e =
     let h = neither (ltb mostBytes (length s)) (ltb (length text) (length s)) e in
     (ltb-false mostBytes (length s) (h .0), ltb-false (length text) (length s) (h .1))
 
-not-both : (s text : List ℕ) → TooLong s text → Fits s text → ⊥
+pub not-both : (s text : List ℕ) → TooLong s text → Fits s text → ⊥
 not-both s text (inl l) h = omega (arith, h .0)
 not-both s text (inr l) h = omega (arith, h .1)
 

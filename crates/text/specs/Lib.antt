@@ -10,3 +10,10 @@ pub mod Spelling
 pub mod Writing
 pub mod WritingExactly
 pub mod ReadBack
+pub mod NumberGrammar
+pub mod NumberParse
+pub mod NumberReading
+pub mod NumbersRead
+pub mod Dialects
+pub mod Converting
+pub mod ThereAndBack
