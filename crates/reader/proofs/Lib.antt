@@ -15,4 +15,7 @@ pub mod Nameless
 pub mod Answering
 pub mod Steps
 pub mod Encoded
+pub mod Digits
+pub mod Phrases
+pub mod NumberSteps
 pub mod Types

@@ -4,3 +4,4 @@ pub mod Layout
 pub mod Answers
 pub mod Answering
 pub mod Steps
+pub mod Numbers

@@ -1,18 +1,21 @@
-// The reader: the text of a closed term to its table.
+// The reader: the text of a closed term, in either dialect, to its table.
 ghost use mathlib.Core.Path.{_≡_};
 ghost use mathlib.Core.Option.{Option};
 ghost use Prim.Native.Nat.{_≤_};
 ghost use lib.ListN.{length};
 ghost use Rattle.term.specs.Term.{Term};
 ghost use Rattle.text.specs.Reading.{readOf};
+ghost use Rattle.text.specs.NumberReading.{readNumbersOf};
 ghost use Rattle.reader.specs.Types.{readMeant, refusedReading};
 ghost use Rattle.reader.specs.Answering.{InCode, AnsweredFor};
 ghost use Rattle.reader.specs.Steps.{spellingNumber, CodedIs};
+ghost use Rattle.reader.specs.Numbers.{NumbersCoded};
 use grammar::Got;
 
 mod bytes;
 mod grammar;
 mod layout;
+mod numbers;
 mod scan;
 mod token;
 
@@ -35,6 +38,21 @@ pub fn read(text: &[u8], table: &mut [u32]) -> Reading
     match coded {
         Coded::Words(n) => answer_for(&code, n, 5, table),
         Coded::NoTerm => refused(4),
+    }
+}
+
+// Document 02, change 7: 1, 13, 14 and 6 for a text of the number dialect, each put to the whole text.
+pub fn read_numbers(text: &[u8], table: &mut [u32]) -> Reading
+    ensures { λ r. ⌜ readMeant r (now (table .exit)) ≡ readNumbersOf (now (text .entry)) (now (table .entry)) ⌝ }
+{
+    if 3000 < text.len() {
+        return refused(1);
+    }
+    let mut code = [0u32; 3000];
+    let coded = numbers_code(text, &mut code);
+    match coded {
+        Coded::Words(n) => answer_for(&code, n, 14, table),
+        Coded::NoTerm => refused(13),
     }
 }
 
@@ -79,6 +97,24 @@ fn code_of(text: &[u8], code: &mut [u32]) -> Coded
     match got {
         Got::Read(p, n) => {
             if scan::skip(text, p) < text.len() {
+                Coded::NoTerm
+            } else {
+                Coded::Words(n)
+            }
+        }
+        Got::Not => Coded::NoTerm,
+    }
+}
+
+// The same of a text of the number dialect, with 0 for a number that reaches past the outermost binder. There is room for a word for each byte.
+fn numbers_code(text: &[u8], code: &mut [u32]) -> Coded
+    requires { ⌜ (length (now text) ≤ 3000) × (3000 ≤ length (now code)) ⌝ }
+    ensures { λ r. ⌜ NumbersCoded (now (text .entry)) r (now (code .exit)) ⌝ }
+{
+    let got = numbers::phrase(text, 0, 0, code, 0);
+    match got {
+        Got::Read(p, n) => {
+            if p < text.len() {
                 Coded::NoTerm
             } else {
                 Coded::Words(n)

@@ -6,6 +6,7 @@ ghost use lib.ListN.{length, take, drop};
 ghost use Rattle.text.specs.Tokens.{tokens, isBadName, anyBadName};
 ghost use Rattle.text.specs.Binding.{sameName, indexOf};
 ghost use Rattle.text.specs.Reading.{anyForeign};
+ghost use Rattle.text.specs.NumberParse.{digitsFirst};
 ghost use Rattle.reader.specs.Scanning.{runOf, nameRun, gapRun, nameAt, namesAt, variableWord};
 ghost use Rattle.reader.specs.Types.{isOneOf};
 use crate::bytes::Classes;
@@ -42,6 +43,13 @@ pub(crate) fn skip(text: &[u8], at: usize) -> usize
     ensures { λ r. ⌜ r ≡ at + gapRun (drop at (now (text .entry))) ⌝ }
 {
     run_end(text, at, IN_GAP)
+}
+
+// Where the digits that stand at `at` end; `at` itself where none do.
+pub(crate) fn digits_end(text: &[u8], at: usize) -> usize
+    ensures { λ r. ⌜ r ≡ at + length (digitsFirst (drop at (now (text .entry)))) ⌝ }
+{
+    run_end(text, at, DIGIT)
 }
 
 // Number 2: whether some byte is foreign, so that the others end before the text does.
