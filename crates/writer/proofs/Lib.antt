@@ -2,4 +2,7 @@
 pub mod Types
 pub mod Putting
 pub mod Parts
+pub mod PartList
+pub mod NumberParts
+pub mod NodesPut
 pub mod Whole

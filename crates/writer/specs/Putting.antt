@@ -7,11 +7,13 @@ use lib.ListN.{length}
 use lib.Seq.{sets}
 use Rattle.term.specs.Term.{Term, size}
 use Rattle.term.specs.Table.{tableIn}
+use Rattle.term.specs.Accepted.{Accepted}
 use Rattle.term.specs.Walk.{RowsIn}
 use Rattle.text.specs.Bytes.{lambda, dot}
 use Rattle.text.specs.Written.{nodeName, treeOf, enclosed, treeText}
+use Rattle.text.specs.Dialects.{Dialect, textIn}
 
--- No term of 3,000 nodes has a longer text: each node takes at most 16 bytes (`text` Names, `text-short`).
+-- No term of 3,000 nodes has a longer text: each node takes at most 16 bytes (`text` Names, `text-short`, NumberGrammar, `numbers-short`).
 abbrev pub longestText : ℕ
 longestText = 48000
 
@@ -43,3 +45,7 @@ pub record Puttable (w : List ℕ) (n i : ℕ) (b : Bool) (at : ℕ) (t : Term) 
 -- What the functions that put a part promise, from what they were lent at entry: the text of every term that stands there. (Only one does; the caller knows which.)
 abbrev pub PartPut : List ℕ → ℕ → ℕ → Bool → ℕ → List ℕ → ℕ → List ℕ → Type 0
 PartPut w n i b at out r out′ = (t : Term) (bs : List ℕ) → Puttable w n i b at t bs → Put out at (enclosed b (textAt t bs i)) r out′
+
+-- The text of the whole table in a dialect, from the first byte on.
+abbrev pub TextPut : Dialect → List ℕ → ℕ → List ℕ → ℕ → List ℕ → Type 0
+TextPut d w n out r out′ = (A : Accepted w n) → Put out 0 (textIn d (A .term)) r out′
