@@ -1,0 +1,2 @@
+-- The laws that the proofs of the conversions cite.
+pub mod Steps
