@@ -1,5 +1,5 @@
 #!/usr/bin/env python3
-"""An independent reading of document 01, and of changes 1 to 3, 5 and 6 of document 02, from which the expected outputs of the programs `cases` and `winder` are worked out.
+"""An independent reading of document 01, and of changes 1 to 3 and 5 to 7 of document 02, from which the expected outputs of the programs `cases` and `winder` are worked out.
 
   tools/reference.py cases < SCRIPT   what `cases` must print for a script of cases, as crates/cases/stdin (script.py)
   tools/reference.py winder < TERM    what `winder` must print for a term
@@ -7,6 +7,7 @@
 It shares nothing with the crates: terms are trees with names, entries are nested tuples, the machine is the eight rules over them, and a session is
 checked by reading its words back. It is slow and plain on purpose.
 """
+import re
 import sys
 import threading
 
@@ -109,22 +110,81 @@ def rows(tree):
     return table
 
 
-def read(text, room):
-    """n, number, and the words that are laid out (none where refused)."""
+def named_text(text):
+    """The named tree of a text with names, or Refused(2) to Refused(4)."""
+    if any(not (97 <= b <= 122 or 48 <= b <= 57 or b in b'\\.() \n') for b in text):
+        raise Refused(2)
+    ts = tokens(text)
+    if any(is_name(t) and (len(t) > 8 or 48 <= t[0] <= 57) for t in ts):
+        raise Refused(3)
+    return parse(ts)
+
+
+def reading(text, room, tree_of):
+    """n, number, and the words that are laid out (none where refused); a dialect's own numbers are those of its trees."""
     try:
         if len(text) > 3000:
             raise Refused(1)
-        if any(not (97 <= b <= 122 or 48 <= b <= 57 or b in b'\\.() \n') for b in text):
-            raise Refused(2)
-        ts = tokens(text)
-        if any(is_name(t) and (len(t) > 8 or 48 <= t[0] <= 57) for t in ts):
-            raise Refused(3)
-        table = rows(parse(ts))
+        table = rows(tree_of(text))
         if room < 5 * len(table):
             raise Refused(6)
         return len(table), 0, [w for r in table for w in r]
     except Refused as r:
         return 0, r.number, []
+
+
+def read(text, room):
+    return reading(text, room, named_text)
+
+
+# ---- the number dialect
+
+PART = re.compile(rb'\\|@|0|[1-9][0-9]*')
+
+
+def parts_of(text):
+    """The parts, one space before each but the first; or Refused(13) where one of them is none, or they are too few or too many for a term."""
+    parts, missing = text.split(b' '), 1
+    for part in parts:
+        if missing == 0 or not PART.fullmatch(part):
+            raise Refused(13)
+        missing += {b'\\': 0, b'@': 1}.get(part, -1)
+    if missing:
+        raise Refused(13)
+    return parts
+
+
+def depths_of(parts):
+    """How many binders are around each part; `due` has as much of the terms still to come, the next of them last."""
+    depths, due = [], [0]
+    for part in parts:
+        depth = due.pop()
+        depths.append(depth)
+        due += {b'\\': [depth + 1], b'@': [depth, depth]}.get(part, [])
+    return depths
+
+
+def numbered_text(text):
+    """The named tree of a text without names, or Refused(13) or Refused(14); the name of a binder is how many binders are around it.
+
+    From the last part to the first, so that the trees of what follows a part are there when it comes; `trees` has them, the next of them last.
+    """
+    parts, trees = parts_of(text), []
+    for part, depth in zip(reversed(parts), reversed(depths_of(parts))):
+        if part == b'\\':
+            trees.append(('lam', depth, trees.pop()))
+        elif part == b'@':
+            function, argument = trees.pop(), trees.pop()
+            trees.append(('app', function, argument))
+        elif int(part) < depth:  # int takes numbers of 4,300 digits, and a text has at most 3,000 bytes
+            trees.append(('var', depth - 1 - int(part)))
+        else:
+            raise Refused(14)
+    return trees.pop()
+
+
+def read_numbers(text, room):
+    return reading(text, room, numbered_text)
 
 
 # ---- the machine
@@ -318,15 +378,49 @@ def spelled(tree):
     return b''.join(out)
 
 
-def write(w, n, room):
+def numbered(table):
+    """The text of accepted rows without names: they stand in the order of its parts. A variable's number is how many abstractions are between it and its binder."""
+    parts = []
+    for kind, left, _, parent, _ in table:
+        number = 0
+        while kind == 1 and parent != left:
+            number += table[parent - 1][0] == 2
+            parent = table[parent - 1][3]
+        parts.append({1: b'%d' % number, 2: b'\\', 3: b'@'}[kind])
+    return b' '.join(parts)
+
+
+def writing(w, n, room, text_of):
     """The length, the number, and the bytes that are written (none where refused)."""
     table = accepted(w, n)
     if table is None:
         return 0, 7, b''
-    text = spelled(named_tree(table))
+    text = text_of(table)
     if len(text) > 3000 or len(text) > room:
         return 0, 11, b''
     return len(text), 0, text
+
+
+def write(w, n, room):
+    return writing(w, n, room, lambda table: spelled(named_tree(table)))
+
+
+def write_numbers(w, n, room):
+    return writing(w, n, room, numbered)
+
+
+def converted(text, room, read_from, write_to):
+    """As written from a table of its own, which has room for every text: 15,000 words."""
+    n, number, w = read_from(text, 15000)
+    return (0, number, b'') if number else write_to(w, n, room)
+
+
+def to_numbers(text, room):
+    return converted(text, room, read, write_numbers)
+
+
+def to_names(text, room):
+    return converted(text, room, read_numbers, write)
 
 
 # ---- sessions on any words

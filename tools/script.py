@@ -1,9 +1,10 @@
 """The script of cases (crates/cases/stdin, which says its commands) on reference.py's reading of documents 01 and 02: what the program `cases` must print."""
 from itertools import groupby
 
-from reference import GREATEST, START, Machine, Session, accepted, back_to, call, forward_to, go_to, lay, open_session, read, top, wind, words, write
+from reference import (GREATEST, START, Machine, Session, accepted, back_to, call, forward_to, go_to, lay, open_session, read, read_numbers, to_names,
+                       to_numbers, top, wind, words, write, write_numbers)
 
-LONGEST_SCRIPT, LONGEST_TEXT, LONGEST_BUFFER = 32767, 3001, 3010
+LONGEST_SCRIPT, LONGEST_TEXT, LONGEST_BUFFER, LONGEST_WRITTEN = 65535, 3001, 3010, 3000
 
 
 class Wrong(Exception):
@@ -81,24 +82,56 @@ class Desk:
     # the calls, each answering the line to print after its name
 
     def do_read(self):
-        if len(self.text) > LONGEST_TEXT:
-            raise Wrong
-        return self.laid_out(self.text)
+        return self.laid_out(read, self.said())
+
+    def do_read_numbers(self):
+        return self.laid_out(read_numbers, self.said())
+
+    def do_to_numbers_read(self):
+        return self.laid_out(read_numbers, to_numbers(self.said(), LONGEST_WRITTEN)[2])
+
+    def do_to_names_read(self):
+        return self.laid_out(read, to_names(self.said(), LONGEST_WRITTEN)[2])
 
     def do_read_back(self):
-        _, number, text = write(self.table.part(), self.n, 3000)
-        if number == 0:
-            self.table.back([8] * self.table.given)
-        return self.laid_out(text)
+        return self.laid_out(read, self.taken_out(write))
+
+    def do_read_numbers_back(self):
+        return self.laid_out(read_numbers, self.taken_out(write_numbers))
 
     def do_write(self, size, byte):
-        if size > LONGEST_BUFFER or byte > 255:
-            raise Wrong
-        length, number, text = write(self.table.part(), self.n, size)
-        return ' len %d refusal %d text %s rest%s' % (length, number, text.decode(), shown([byte] * (size - length)))
+        return put_down(size, byte, write, self.table.part(), self.n)
 
-    def laid_out(self, text):
-        self.n, number, ws = read(text, self.table.given)
+    def do_write_numbers(self, size, byte):
+        return put_down(size, byte, write_numbers, self.table.part(), self.n)
+
+    def do_to_numbers(self, size, byte):
+        return put_down(size, byte, to_numbers, self.said())
+
+    def do_to_names(self, size, byte):
+        return put_down(size, byte, to_names, self.said())
+
+    def do_numbers_and_back(self, size, byte):
+        return put_down(size, byte, to_names, to_numbers(self.said(), LONGEST_WRITTEN)[2])
+
+    def do_names_and_back(self, size, byte):
+        return put_down(size, byte, to_numbers, to_names(self.said(), LONGEST_WRITTEN)[2])
+
+    def said(self):
+        """The script's text, unless it is longer than one may be."""
+        if len(self.text) > LONGEST_TEXT:
+            raise Wrong
+        return self.text
+
+    def taken_out(self, write_it):
+        """The table's text; other words stand in its place, where it is not refused."""
+        _, number, text = write_it(self.table.part(), self.n, LONGEST_WRITTEN)
+        if number == 0:
+            self.table.back([8] * self.table.given)
+        return text
+
+    def laid_out(self, read_it, text):
+        self.n, number, ws = read_it(text, self.table.given)
         self.table.words[:len(ws)] = ws
         return ' n %d refusal %d table%s' % (self.n, number, self.table.shown())
 
@@ -167,6 +200,14 @@ class Desk:
         return self.wound(outcome) + ' agreed %d' % agreed
 
 
+def put_down(size, byte, write_it, *given):
+    """What is written of the given into so many bytes, each the same."""
+    if size > LONGEST_BUFFER or byte > 255:
+        raise Wrong
+    length, number, text = write_it(*given, size)
+    return ' len %d refusal %d text %s rest%s' % (length, number, text.decode(), shown([byte] * (size - length)))
+
+
 def topped(_offset, part, number):
     return ' refusal %d part%s' % (number, shown(part))
 
@@ -199,7 +240,9 @@ SHAPES = {
     'text': (0, True), 'n': (1, False), 'down': (4, False), 'up': (4, False), 'tower': (1, False),
     'read': (0, True), 'accept': (0, True), 'open': (0, True), 'forward': (1, True), 'back': (1, True), 'go-to': (1, True),
     'walk': (1, True), 'walk-back': (1, True), 'log-top': (0, True), 'tape-top': (0, True), 'write': (2, True), 'read-back': (0, True),
-    'back-to': (2, True), 'forward-to': (3, True),
+    'back-to': (2, True), 'forward-to': (3, True), 'read-numbers': (0, True), 'write-numbers': (2, True), 'read-numbers-back': (0, True),
+    'to-numbers': (2, True), 'to-names': (2, True), 'to-numbers-read': (0, True), 'to-names-read': (0, True),
+    'numbers-and-back': (2, True), 'names-and-back': (2, True),
 }
 SLICES = ('table', 'log', 'tape')
 for slice in SLICES:

@@ -13,7 +13,7 @@ pub(crate) enum Topic {
     Table,
     Log,
     Tape,
-    Read,
+    OnText,
     Accept,
     Made,
     Top,
@@ -29,6 +29,19 @@ pub(crate) enum Plain {
     Nodes,
     Down,
     Up,
+}
+
+// The two ways in which a text spells a term.
+pub(crate) enum Dialect {
+    Names,
+    Numbers,
+}
+
+// What becomes of the text that the script says: it is read; it is converted; it is converted first, and what is written is read or converted back.
+pub(crate) enum TextCall {
+    Read,
+    Convert,
+    ConvertFirst,
 }
 
 // What becomes of a slice: so many words, all the same; one word; how many words a call gets; the rows of a tower.
@@ -76,21 +89,24 @@ pub(crate) fn row_of(line: &[u8]) -> usize {
           table 2 . set-table 2 . lend-table 1 . tower 1 . \
           log 2 . set-log 2 . lend-log 1 . tape 2 . set-tape 2 . lend-tape 1 . \
           log-top 0 + tape-top 0 + write 2 + read-back 0 + \
-          back-to 2 + forward-to 3 +",
+          back-to 2 + forward-to 3 + \
+          read-numbers 0 + write-numbers 2 + read-numbers-back 0 + \
+          to-numbers 2 + to-names 2 + to-numbers-read 0 + to-names-read 0 + \
+          numbers-and-back 2 + names-and-back 2 +",
     )
 }
 
 pub(crate) fn topic_of(row: usize) -> Topic {
     match row {
-        4 => Topic::Read,
+        4 | 28 | 31..=36 => Topic::OnText,
         5 => Topic::Accept,
         6..=11 | 26 | 27 => Topic::Made,
         12..=15 => Topic::Table,
         16..=18 => Topic::Log,
         19..=21 => Topic::Tape,
         22 | 23 => Topic::Top,
-        24 => Topic::Write,
-        25 => Topic::ReadBack,
+        24 | 29 => Topic::Write,
+        25 | 30 => Topic::ReadBack,
         _ => Topic::Plain,
     }
 }
@@ -104,6 +120,27 @@ pub(crate) fn plain_of(row: usize) -> Plain {
         98 => Plain::Nothing,
         _ => Plain::Wrong,
     }
+}
+
+// The dialect that a call reads or writes; of a conversion the one that it writes, and of two that of the first.
+pub(crate) fn dialect_of(row: usize) -> Dialect {
+    match row {
+        28..=31 | 33 | 35 => Dialect::Numbers,
+        _ => Dialect::Names,
+    }
+}
+
+pub(crate) fn text_call_of(row: usize) -> TextCall {
+    match row {
+        31 | 32 => TextCall::Convert,
+        33..=36 => TextCall::ConvertFirst,
+        _ => TextCall::Read,
+    }
+}
+
+// Whether what is written of a converted text is converted back, and not read.
+pub(crate) fn is_there_and_back(row: usize) -> bool {
+    if row == 35 { true } else { row == 36 }
 }
 
 // A direction of the script: 0 is down, any other number up.

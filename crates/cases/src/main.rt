@@ -7,13 +7,19 @@ mod desk;
 mod lent;
 mod moves;
 mod show;
+mod texts;
 mod words;
 mod written;
 
+use command::Dialect;
 use command::Plain;
+use command::TextCall;
 use command::Topic;
+use command::dialect_of;
+use command::is_there_and_back;
 use command::plain_of;
 use command::row_of;
+use command::text_call_of;
 use command::topic_of;
 use command::words_of;
 use desk::Desk;
@@ -33,10 +39,15 @@ use show::show_number;
 use show::show_word;
 use show::show_words;
 use show::show_wrong;
+use texts::convert_to;
+use texts::other_than;
+use texts::read_in;
+use texts::write_in;
 use words::after_parts;
 use words::bytes_before;
 use words::bytes_through;
 use words::number_at;
+use written::convert_made;
 use written::write_made;
 
 fn least(a: usize, b: usize) -> usize
@@ -103,18 +114,13 @@ fn plainly(line: &[u8], at: usize, row: usize, d: Desk) -> Desk {
 }
 
 // Reads a text into as much of the table as is lent, and shows the answer; n.
-fn read_lent(line: &[u8], text: &[u8], table: &mut [u32], lent: usize) -> u32 {
+fn read_lent(line: &[u8], which: Dialect, text: &[u8], table: &mut [u32], lent: usize) -> u32 {
     let k = least(lent, table.len());
-    let r = reader::read(text, &mut table[0..k]);
+    let r = read_in(which, text, &mut table[0..k]);
     show_name(line, 1);
     show_number(b" n ", r.n);
     show_number(b" refusal ", r.refusal);
     r.n
-}
-
-// The text that the script says at an index; its length.
-fn text_at(script: &[u8], at: usize, text: &mut [u8]) -> usize {
-    compose(text, after_parts(line_at(script, at), b' ', 1))
 }
 
 fn show_table(d: Desk, table: &[u32]) {
@@ -122,8 +128,94 @@ fn show_table(d: Desk, table: &[u32]) {
     show(b"\n");
 }
 
-// Reads the text that the script says, and shows the answer and the table.
-fn read_shown(script: &[u8], line: &[u8], d: Desk, table: &mut [u32]) -> Desk {
+// Reads a text, and shows the answer and the table.
+fn read_shown(line: &[u8], which: Dialect, text: &[u8], d: Desk, table: &mut [u32]) -> Desk {
+    let n = read_lent(line, which, text, table, d.table);
+    show_table(d, &table[..]);
+    with_nodes(d, n)
+}
+
+// Writes the text of the lent table, fills its words with others, reads the text into them, and shows the answer and the table. A refused text is empty,
+// and then the words stay.
+fn read_back_shown(line: &[u8], which: Dialect, d: Desk, table: &mut [u32]) -> Desk {
+    let mut text = [0u8; 3000];
+    let k = least(d.table, table.len());
+    let r = write_in(which, &table[0..k], d.n, &mut text);
+    overwrite(r.refusal, &mut table[0..k]);
+    let len = least(r.len as usize, 3000);
+    read_shown(line, which, &text[0..len], d, table)
+}
+
+// Whether there are as many bytes to lend as the line says, each what it says.
+fn lends_bytes(line: &[u8]) -> bool {
+    if 3010 < number_at(line, 1) {
+        return false;
+    }
+    number_at(line, 2) < 256
+}
+
+// How many bytes the line lends.
+fn lent_size(line: &[u8]) -> usize {
+    number_at(line, 1) as usize
+}
+
+// What each of them is.
+fn lent_byte(line: &[u8]) -> u8 {
+    (number_at(line, 2) % 256) as u8
+}
+
+// Writes the text of the lent table into as many bytes as the line says, and shows the answer and the bytes; the desk stays as it was.
+fn write_shown(line: &[u8], which: Dialect, d: Desk, table: &[u32]) -> Desk {
+    if !lends_bytes(line) {
+        show_wrong(line);
+        return d;
+    }
+    let k = least(d.table, table.len());
+    show_name(line, 3);
+    write_made(which, &table[0..k], d.n, lent_size(line), lent_byte(line));
+    d
+}
+
+// Converts a text into as many bytes as the line says, and shows the answer and the bytes; the desk stays as it was.
+fn convert_shown(line: &[u8], which: Dialect, text: &[u8], d: Desk) -> Desk {
+    if !lends_bytes(line) {
+        show_wrong(line);
+        return d;
+    }
+    show_name(line, 3);
+    convert_made(which, text, lent_size(line), lent_byte(line));
+    d
+}
+
+// Converts a text, and then reads what is written, or converts it back, and shows that answer. A refused text is empty.
+fn convert_first(line: &[u8], row: usize, text: &[u8], d: Desk, table: &mut [u32]) -> Desk {
+    let which = dialect_of(row);
+    let mut there = [0u8; 3000];
+    let r = convert_to(which, text, &mut there);
+    let len = least(r.len as usize, 3000);
+    if is_there_and_back(row) {
+        convert_shown(line, other_than(which), &there[0..len], d)
+    } else {
+        read_shown(line, which, &there[0..len], d, table)
+    }
+}
+
+// Does what the line says of a text.
+fn text_shown(line: &[u8], row: usize, text: &[u8], d: Desk, table: &mut [u32]) -> Desk {
+    match text_call_of(row) {
+        TextCall::Read => read_shown(line, dialect_of(row), text, d, table),
+        TextCall::Convert => convert_shown(line, dialect_of(row), text, d),
+        TextCall::ConvertFirst => convert_first(line, row, text, d, table),
+    }
+}
+
+// The text that the script says at an index; its length.
+fn text_at(script: &[u8], at: usize, text: &mut [u8]) -> usize {
+    compose(text, after_parts(line_at(script, at), b' ', 1))
+}
+
+// Does what the line says of the text that the script says.
+fn on_text(script: &[u8], line: &[u8], row: usize, d: Desk, table: &mut [u32]) -> Desk {
     // One byte more than a text of the script may have, so that a longer one shows.
     let mut text = [0u8; 3002];
     let len = text_at(script, d.text, &mut text);
@@ -131,39 +223,7 @@ fn read_shown(script: &[u8], line: &[u8], d: Desk, table: &mut [u32]) -> Desk {
         show_wrong(line);
         return d;
     }
-    let n = read_lent(line, &text[0..len], table, d.table);
-    show_table(d, &table[..]);
-    with_nodes(d, n)
-}
-
-// Writes the text of the lent table, fills its words with others, reads the text into them, and shows the answer and the table. A refused text is empty,
-// and then the words stay.
-fn read_back_shown(line: &[u8], d: Desk, table: &mut [u32]) -> Desk {
-    let mut text = [0u8; 3000];
-    let k = least(d.table, table.len());
-    let r = writer::write(&table[0..k], d.n, &mut text);
-    overwrite(r.refusal, &mut table[0..k]);
-    let len = least(r.len as usize, 3000);
-    let n = read_lent(line, &text[0..len], table, d.table);
-    show_table(d, &table[..]);
-    with_nodes(d, n)
-}
-
-// Writes the text of the lent table into as many bytes as the line says, and shows the answer and the bytes; the desk stays as it was.
-fn write_shown(line: &[u8], d: Desk, table: &[u32]) -> Desk {
-    let size = number_at(line, 1);
-    let byte = number_at(line, 2);
-    if size <= 3010 {
-        if byte <= 255 {
-            let k = least(d.table, table.len());
-            show_name(line, 3);
-            write_made(&table[0..k], d.n, size as usize, byte as u8);
-            show(b"\n");
-            return d;
-        }
-    }
-    show_wrong(line);
-    d
+    text_shown(line, row, &text[0..len], d, table)
 }
 
 fn accepted_lent(d: Desk, table: &[u32]) -> bool {
@@ -242,12 +302,12 @@ fn obey(
         Topic::Table => changed(line, row, 0, table, d),
         Topic::Log => changed(line, row, 1, log, d),
         Topic::Tape => changed(line, row, 2, tape, d),
-        Topic::Read => read_shown(script, line, d, table),
+        Topic::OnText => on_text(script, line, row, d, table),
         Topic::Accept => accept_shown(line, d, &table[..]),
         Topic::Made => made_shown(line, row, d, &table[..], log, tape),
         Topic::Top => top_shown(line, row, d, &table[..], &log[..], &tape[..]),
-        Topic::Write => write_shown(line, d, &table[..]),
-        Topic::ReadBack => read_back_shown(line, d, table),
+        Topic::Write => write_shown(line, dialect_of(row), d, &table[..]),
+        Topic::ReadBack => read_back_shown(line, dialect_of(row), d, table),
     }
 }
 
@@ -270,9 +330,9 @@ fn run(script: &[u8], table: &mut [u32], log: &mut [u32], tape: &mut [u32]) {
 
 fn main() {
     // One byte more than a script may have, so that a longer one shows.
-    let mut script = [0u8; 32768];
+    let mut script = [0u8; 65536];
     let got = io::read_full(0, &mut script);
-    if 32767 < got {
+    if 65535 < got {
         show_wrong(b"the script is too long");
         return;
     }

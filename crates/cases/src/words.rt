@@ -99,12 +99,12 @@ pub(crate) fn same_bytes(a: &[u8], b: &[u8]) -> bool {
     true
 }
 
-// Which row of the list, from 0, begins with the word; a row has three parts. 33 where none of the first 33 does.
+// Which row of the list, from 0, begins with the word; a row has three parts. 60 where none of the first 60 does.
 pub(crate) fn row_in(list: &[u8], word: &[u8]) -> usize
-    ensures { λ r. ⌜ r ≤ 33 ⌝ }
+    ensures { λ r. ⌜ r ≤ 60 ⌝ }
 {
     let mut row = 0;
-    while row < 33 {
+    while row < 60 {
         if same_bytes(nth_part(list, b' ', 3 * row), word) {
             return row;
         }

@@ -5,10 +5,10 @@ use Rattle.cases.proofs.words.row_in.Statement.{statement}
 use Rattle.cases.proofs.words.row_in.Tie as tie
 
 abbrev Inv-loop : tie.InvT-loop
-Inv-loop list word row₀ row = row ≤ 33
+Inv-loop list word row₀ row = row ≤ 60
 
 abbrev μ-loop : tie.MeasureT-loop
-μ-loop list word row₀ row = 33 - row
+μ-loop list word row₀ row = 60 - row
 
 loop-holds : tie.Need-loop-holds Inv-loop μ-loop
 loop-holds c = search needs
