@@ -21,7 +21,11 @@ static yildreuz_session session;
 
 static void *nothing(void *unused) { return unused; }
 static void *reads(void *unused) { n = yildreuz_read(text, text_len, table, TABLE).n; return unused; }
+static void *reads_numbers(void *unused) { n = yildreuz_read_numbers(text, text_len, table, TABLE).n; return unused; }
 static void *writes(void *unused) { yildreuz_write(table, TABLE, n, written, sizeof written); return unused; }
+static void *writes_numbers(void *unused) { yildreuz_write_numbers(table, TABLE, n, written, sizeof written); return unused; }
+static void *to_numbers(void *unused) { yildreuz_to_numbers(text, text_len, written, sizeof written); return unused; }
+static void *to_names(void *unused) { yildreuz_to_names(text, text_len, written, sizeof written); return unused; }
 static void *opens(void *unused) { session = yildreuz_open(table, TABLE, n, ALL_SLICES).session; return unused; }
 static void *forward(void *unused) { session = yildreuz_forward(table, TABLE, n, session, ALL_SLICES, 20000).session; return unused; }
 static void *back(void *unused) { session = yildreuz_back(table, TABLE, n, session, ALL_SLICES, 10000).session; return unused; }
@@ -60,28 +64,41 @@ static void measure(const char *name, const char *on, void *(*call)(void *), siz
     failed |= used > most;
 }
 
-/* head repeated, then middle, then tail repeated, as often as there is room. */
-static void write_text(const char *head, const char *middle, const char *tail)
+static void append(const char *part, size_t times)
 {
-    size_t h = strlen(head), m = strlen(middle), t = strlen(tail), times = (YILDREUZ_MOST_BYTES - m) / (h + t);
+    for (size_t len = strlen(part); times > 0; times--, text_len += len)
+        memcpy(text + text_len, part, len);
+}
+
+/* first, head repeated, then middle, then tail repeated, as often as there is room. */
+static void write_text(const char *first, const char *head, const char *middle, const char *tail)
+{
+    size_t times = (YILDREUZ_MOST_BYTES - strlen(first) - strlen(middle)) / (strlen(head) + strlen(tail));
     text_len = 0;
-    for (size_t i = 0; i < times; i++, text_len += h)
-        memcpy(text + text_len, head, h);
-    memcpy(text + text_len, middle, m);
-    text_len += m;
-    for (size_t i = 0; i < times; i++, text_len += t)
-        memcpy(text + text_len, tail, t);
+    append(first, 1);
+    append(head, times);
+    append(middle, 1);
+    append(tail, times);
 }
 
 static void measure_reading(const char *on, const char *head, const char *middle, const char *tail)
 {
-    write_text(head, middle, tail);
+    write_text("", head, middle, tail);
+    measure("to_numbers", on, to_numbers, YILDREUZ_CONVERT_STACK);
     measure("read", on, reads, YILDREUZ_READ_STACK);
+}
+
+static void measure_numbers(const char *on, const char *first, const char *head, const char *middle, const char *tail)
+{
+    write_text(first, head, middle, tail);
+    measure("to_names", on, to_names, YILDREUZ_CONVERT_STACK);
+    measure("read_numbers", on, reads_numbers, YILDREUZ_READ_STACK);
 }
 
 static void measure_calls(const char *on)
 {
     measure("write", on, writes, YILDREUZ_CALL_STACK);
+    measure("write_numbers", on, writes_numbers, YILDREUZ_CALL_STACK);
     measure("open", on, opens, YILDREUZ_CALL_STACK);
     measure("forward", on, forward, YILDREUZ_CALL_STACK);
     measure("back", on, back, YILDREUZ_CALL_STACK);
@@ -115,6 +132,14 @@ int main(void)
     measure_calls("arguments in arguments");
     measure_reading("functions of functions", "(\\x.x)", "(\\x.x)", "");
     measure_calls("functions of functions");
+    measure_numbers("backslashes alone", "", "\\ ", "", "");
+    measure_numbers("@ alone", "", "@ ", "", "");
+    measure_numbers("abstractions, as numbers", "", "\\ ", "0", "");
+    measure_calls("abstractions, as numbers");
+    measure_numbers("arguments in arguments, as numbers", "\\ ", "@ 0 ", "0", "");
+    measure_calls("arguments in arguments, as numbers");
+    measure_numbers("functions of functions, as numbers", "\\ ", "@ ", "0", " 0");
+    measure_calls("functions of functions, as numbers");
     deepest_table();
     measure_calls("2,999 abstractions");
     return failed;

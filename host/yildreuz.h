@@ -1,8 +1,9 @@
-/* Yildreuz for C and C++: reads a closed lambda-term and writes it back as text, opens a session on it, moves a token over
-   the term, forward, back, to a position or to the last or next visit of a node, and points at the newest entry that the
-   token carries. Link libyildreuz.a (x86-64 Linux), which needs memset of the C library and nothing else.
+/* Yildreuz for C and C++: reads a closed lambda-term and writes it back as text, with names or with numbers for its
+   variables, converts a text of either kind into the other, opens a session on a term, moves a token over it, forward,
+   back, to a position or to the last or next visit of a node, and points at the newest entry that the token carries. Link
+   libyildreuz.a (x86-64 Linux), which needs memset of the C library and nothing else.
 
-   Who owns what. Every byte and word is the caller's. A call borrows text, table, log and tape while it runs: it keeps
+   Who owns what. Every byte and word is the caller's. A call borrows texts, table, log and tape while it runs: it keeps
    no pointer, allocates nothing, and has no state of its own, so calls that write different slices may run at the same
    time, on one table too. Sessions and answers are numbers, handed over and back by value; a copy of one is as good as
    the other.
@@ -22,12 +23,19 @@
         starts with a digit                           8  log or tape has more than 16,384 words
      4  it is not a term                              9  the session, log and tape hold no state of the machine, or
      5  it has a name without a binder                   the session's direction is neither 0 nor 1
-                                                     10  the chosen list is empty, or none is chosen
-                                                     11  the term's text has more than 3,000 bytes, or more than are lent
+    13  it is no text of the number dialect          10  the chosen list is empty, or none is chosen
+    14  it has a number that reaches past the        11  the text to be written has more than 3,000 bytes, or more
+        outermost binder                                 than are lent
                                                      12  the node to be visited is 0 or over n, or the direction of
                                                          the visit is neither 0 nor 1
-   The numbers are tested in their order: 1 to 6 by read, 7 and 8 by open, 7 to 9 by forward, back and go_to, 7 to 9 and
-   12 by back_to and forward_to, 7 to 10 by top, and 7 and 11 by write.
+   Each call tests its numbers in this order: read 1 to 6; read_numbers 1, 13, 14, 6; write and write_numbers 7, 11;
+   to_numbers 1 to 5, 11; to_names 1, 13, 14, 11; open 7, 8; forward, back and go_to 7 to 9; back_to and forward_to 7 to 9,
+   12; top 7 to 10.
+
+   Two dialects of text. The one with names is that of read and write. The number dialect has \ before a body, @ before
+   function and argument, and for a variable a decimal number without leading zeros: how many abstractions stand between
+   it and its binder, so that 0 is for the innermost. One space stands before each of these parts but the first, and there
+   is nothing else, no line feed at the end either: (\x.x x)(\y.y) is @ \ @ 0 0 \ 0.
 
    What holds after every list of calls. Open a session on a table that was read, and hand each call of forward, back,
    go_to, back_to and forward_to the session, log and tape that the one before left: then these are, word for word, those
@@ -52,11 +60,12 @@ extern "C" {
 #endif
 
 enum {
-    YILDREUZ_MOST_BYTES = 3000,         /* of a text, read or written */
-    YILDREUZ_MOST_NODES = 3000,         /* of a term; its table has 5 words for each node */
-    YILDREUZ_LONGEST = 16384,           /* words of a log or a tape slice; 0 is permitted */
-    YILDREUZ_READ_STACK = 768 * 1024,   /* bytes of stack that yildreuz_read needs at most */
-    YILDREUZ_CALL_STACK = 576 * 1024    /* bytes of stack that each of the other calls needs at most */
+    YILDREUZ_MOST_BYTES = 3000,          /* of a text, read or written */
+    YILDREUZ_MOST_NODES = 3000,          /* of a term; its table has 5 words for each node */
+    YILDREUZ_LONGEST = 16384,            /* words of a log or a tape slice; 0 is permitted */
+    YILDREUZ_READ_STACK = 768 * 1024,    /* bytes of stack that yildreuz_read or yildreuz_read_numbers needs at most */
+    YILDREUZ_CONVERT_STACK = 896 * 1024, /* bytes of stack that yildreuz_to_numbers or yildreuz_to_names needs at most */
+    YILDREUZ_CALL_STACK = 576 * 1024     /* bytes of stack that each of the other calls needs at most */
 };
 
 /* Which way the token goes. */
@@ -79,16 +88,16 @@ enum {
     YILDREUZ_NONE = 9       /* back_to came to none; session, log and tape are as they were given */
 };
 
-/* What read answers. */
+/* What read and read_numbers answer. */
 typedef struct yildreuz_reading {
     uint32_t n;       /* the term's nodes, which the other calls take with the table; 0 in a refusal */
-    uint32_t refusal; /* its number, 1 to 6, or 0 for none */
+    uint32_t refusal; /* its number, 1 to 6, 13 or 14, or 0 for none */
 } yildreuz_reading;
 
-/* What write answers. */
+/* What the calls that write a text answer: write, write_numbers, to_numbers and to_names. */
 typedef struct yildreuz_written {
     uint32_t len;     /* the bytes of the text, from the first lent on; 0 in a refusal */
-    uint32_t refusal; /* its number, 7 or 11, or 0 for none */
+    uint32_t refusal; /* its number, 1 to 5, 7, 11, 13 or 14, or 0 for none */
 } yildreuz_written;
 
 /* Where the token stands. The caller keeps it, with the table, the log and the tape it belongs to, from call to call. */
@@ -139,6 +148,12 @@ typedef struct yildreuz_part {
    The caller promises: the table does not overlap the text; and what the top of this file says of pointers. */
 yildreuz_reading yildreuz_read(const uint8_t *text, size_t text_len, uint32_t *table, size_t table_len);
 
+/* Reads a closed term in the number dialect: its table is the one that yildreuz_read gives for the same term with names. A
+   number of any length is the number it is, so that one too large for a word is a 14.
+   Borrows, needs and leaves to the caller what yildreuz_read does.
+   Refuses with 1, 13, 14 or 6, each put to the whole text before the next, and then every word of the table stays. */
+yildreuz_reading yildreuz_read_numbers(const uint8_t *text, size_t text_len, uint32_t *table, size_t table_len);
+
 /* Writes the text of the term whose table it is. A binder is named v and its node's number, one space stands between
    atoms, round brackets stand only where the grammar needs them, and neither a 0 nor a line feed ends it: (\x.x x)(\y.y)
    is written (\v2.v2 v2) (\v6.v6). Reading that, into 5 x n words or more, gives the same table.
@@ -147,6 +162,29 @@ yildreuz_reading yildreuz_read(const uint8_t *text, size_t text_len, uint32_t *t
    Needs YILDREUZ_CALL_STACK bytes of stack.
    The caller promises: text does not overlap the table; and what the top of this file says of pointers. */
 yildreuz_written yildreuz_write(const uint32_t *table, size_t table_len, uint32_t n, uint8_t *text, size_t text_len);
+
+/* Writes the text of the term whose table it is in the number dialect; neither a 0 nor a line feed ends it. Reading that
+   with yildreuz_read_numbers, into 5 x n words or more, gives the same table, and a table that was read from such a text
+   is written as that text, byte for byte.
+   Borrows, refuses, needs and leaves to the caller what yildreuz_write does. */
+yildreuz_written yildreuz_write_numbers(const uint32_t *table, size_t table_len, uint32_t n,
+                                        uint8_t *text, size_t text_len);
+
+/* Converts a text with names into the number dialect: reads it as yildreuz_read does, into a table of the call's own, and
+   writes that as yildreuz_write_numbers does. What is written reads to the table of the text given.
+   Borrows text to read it, and out to write its first len bytes; the bytes after them stay.
+   Refuses with 1 to 5 for the text given, and then with 11 for the one to be written: every byte of out stays. There is no
+   use in lending more than YILDREUZ_MOST_BYTES.
+   Needs YILDREUZ_CONVERT_STACK bytes of stack.
+   The caller promises: out does not overlap text; and what the top of this file says of pointers. */
+yildreuz_written yildreuz_to_numbers(const uint8_t *text, size_t text_len, uint8_t *out, size_t out_len);
+
+/* Converts a text of the number dialect into one with names: reads it as yildreuz_read_numbers does, into a table of the
+   call's own, and writes that as yildreuz_write does. What is written reads to the table of the text given. Names may take
+   more bytes than numbers do, so that what yildreuz_to_numbers wrote may be refused here with 11.
+   Refuses with 1, 13 or 14 for the text given, and then with 11 for the one to be written: every byte of out stays.
+   Borrows, needs and leaves to the caller what yildreuz_to_numbers does. */
+yildreuz_written yildreuz_to_names(const uint8_t *text, size_t text_len, uint8_t *out, size_t out_len);
 
 /* Opens a session at the start of the walk.
    Borrows the table to read it, and log and tape to write 0 into every word.

@@ -18,6 +18,8 @@ and used so:
     none = lib.back_to(table, n, there.session, log, tape, 2, yildreuz.UP)    # none.stop NONE: it had not been there before
     text = bytearray(yildreuz.MOST_BYTES)
     written = lib.write(table, n, text)    # text[:written.len] is now rb'(\\v2.v2 v2) (\\v6.v6)'
+    written = lib.write_numbers(table, n, text)    # and now rb'@ \\ @ 0 0 \\ 0', which lib.read_numbers reads
+    written = lib.to_names(rb'@ \\ @ 0 0 \\ 0', text)    # the names again; lib.to_numbers goes the other way
 
 Table, log and tape are the caller's: `words(k)`, or any writable buffer of 32-bit words such as an array('I') or a memoryview of a part of one. So is what
 a text is written into: a bytearray, or any other writable buffer of bytes. A call borrows them while it runs and writes into them in place. Sessions and
@@ -148,8 +150,13 @@ class Library:
     def __init__(self, path):
         lib = ctypes.CDLL(str(path))
         slices = [_WORDS, _LEN, _WORDS, _LEN]
-        self._read = self._call(lib.yildreuz_read, _Reading, [_BYTES, _LEN, _WORDS, _LEN])
-        self._write = self._call(lib.yildreuz_write, _Written, [_WORDS, _LEN, _WORD, _BYTES, _LEN])
+        reading, writing, converting = [_BYTES, _LEN, _WORDS, _LEN], [_WORDS, _LEN, _WORD, _BYTES, _LEN], [_BYTES, _LEN, _BYTES, _LEN]
+        self._read = self._call(lib.yildreuz_read, _Reading, reading)
+        self._read_numbers = self._call(lib.yildreuz_read_numbers, _Reading, reading)
+        self._write = self._call(lib.yildreuz_write, _Written, writing)
+        self._write_numbers = self._call(lib.yildreuz_write_numbers, _Written, writing)
+        self._to_numbers = self._call(lib.yildreuz_to_numbers, _Written, converting)
+        self._to_names = self._call(lib.yildreuz_to_names, _Written, converting)
         self._open = self._call(lib.yildreuz_open, _Opening, [_WORDS, _LEN, _WORD] + slices)
         winding = [_WORDS, _LEN, _WORD, _Session] + slices + [_WORD]
         self._forward = self._call(lib.yildreuz_forward, _Outcome, winding)
@@ -166,13 +173,27 @@ class Library:
 
     def read(self, text, table):
         """Reads a closed term, given as bytes, into the table."""
-        (table,) = _lent(table)
-        return _told(Reading, self._read(*_lent_text(text), *table))
+        return self._lay_out(self._read, text, table)
+
+    def read_numbers(self, text, table):
+        """Reads a closed term of the number dialect, given as bytes, into the table."""
+        return self._lay_out(self._read_numbers, text, table)
 
     def write(self, table, n, text):
         """Writes the text of a table's term into a buffer of bytes."""
-        table, text = _lent(table, texts=[text])
-        return _told(Written, self._write(*table, _word(n), *text))
+        return self._put_down(self._write, table, n, text)
+
+    def write_numbers(self, table, n, text):
+        """Writes the text of a table's term in the number dialect into a buffer of bytes."""
+        return self._put_down(self._write_numbers, table, n, text)
+
+    def to_numbers(self, text, out):
+        """Converts a text with names, given as bytes, into the number dialect, into a buffer of bytes."""
+        return self._convert(self._to_numbers, text, out)
+
+    def to_names(self, text, out):
+        """Converts a text of the number dialect, given as bytes, into one with names, into a buffer of bytes."""
+        return self._convert(self._to_names, text, out)
 
     def open(self, table, n, log, tape):
         """Opens a session at the start of the walk, and zeroes log and tape."""
@@ -205,6 +226,21 @@ class Library:
         refusal = ctypes.c_uint32()
         part = self._top(*table, _word(n), _Session(*map(_word, session)), *log, *tape, _word(which), ctypes.byref(refusal))
         return Top(_told(Part, part), refusal.value)
+
+    @staticmethod
+    def _lay_out(call, text, table):
+        (table,) = _lent(table)
+        return _told(Reading, call(*_lent_text(text), *table))
+
+    @staticmethod
+    def _put_down(call, table, n, text):
+        table, text = _lent(table, texts=[text])
+        return _told(Written, call(*table, _word(n), *text))
+
+    @staticmethod
+    def _convert(call, text, out):
+        (out,) = _lent(texts=[out])
+        return _told(Written, call(*_lent_text(text), *out))
 
     @staticmethod
     def _wind(call, table, n, session, log, tape, *numbers):

@@ -3,10 +3,10 @@
 
   tools/random_calls.py LIBRARY [CALLS [SEED]]
 
-Texts are closed terms, written with blanks and brackets that the grammar permits, and damaged ones; tables, slices and sessions are those that the calls
-left, and damaged ones; terms are written into about as many bytes as their texts have; the visits looked for are mostly of nodes that the token comes to.
-Every number of every answer is compared, every word or byte of what is lent, and those that stand before and after it. At the end every stop and every
-refusal must have come up, from each call that gives it. First, what the wrapper itself must refuse.
+Texts are closed terms, written with blanks and brackets that the grammar permits or in the number dialect, and damaged ones; tables, slices and sessions are
+those that the calls left, and damaged ones; terms are written, and texts converted, into about as many bytes as the result has; the visits looked for are
+mostly of nodes that the token comes to. Every number of every answer is compared, every word or byte of what is lent, and those that stand before and after
+it. At the end every stop and every refusal must have come up, from each call that gives it. First, what the wrapper itself must refuse.
 """
 import pathlib
 import random
@@ -25,9 +25,14 @@ FAR_BACK = 10000  # steps of a search back
 CODES = {name: code for code, name in enumerate(yildreuz.STOP_NAMES)}
 
 # what must have come up of each call by the end
+WRITTEN = {'written', '3,000 bytes', 'over 3,000 bytes', 'refused 11'}
 DUE = {
     'read': {'read'} | {'refused %d' % k for k in range(1, 7)},
-    'write': {'written', '3,000 bytes', 'over 3,000 bytes', 'refused 7', 'refused 11'},
+    'read_numbers': {'read'} | {'refused %d' % k for k in (1, 13, 14, 6)},
+    'write': WRITTEN | {'refused 7'},
+    'write_numbers': WRITTEN | {'refused 7'},
+    'to_numbers': WRITTEN | {'refused %d' % k for k in range(1, 6)},
+    'to_names': WRITTEN | {'refused %d' % k for k in (1, 13, 14)},
     'open': {'opened', 'refused 7', 'refused 8'},
     'forward': {'spent', 'answer', 'jam', 'far', 'log full', 'tape full', 'refused 7', 'refused 8', 'refused 9', 'no direction'},
     'back': {'spent', 'start', 'jam', 'log full', 'tape full', 'refused 7', 'refused 8', 'refused 9', 'no direction'},
@@ -82,17 +87,20 @@ def spelled(rng, tree, place):
 
 
 KNOWN = [rb'(\x.x x)(\y.y)', rb'(\x.x x)(\x.x x)', rb'\x.x', rb'(\f.\x.f(f x))(\y.y)(\z.z)', rb'(\x.\y.x)(\z.z)(\w.w w)', rb'(\x.(\y.(\z.z)y)(x x))(\z.z)']
+LONG_NAMED = [
+    rb'\x.x' + b' x' * 998, rb'\x.\y.x' + b' x' * 997, rb'\x.x' + b' x' * 1498,  # 3,000, 3,001 and 4,500 bytes when written
+    rb'\y.' + rb'\x.' * 10 + b'y' + b' x' * 744, rb'\w.\x.x' + b' x' * 749,  # 3,000 and 3,001 bytes when written in numbers
+]
 
 
-def random_text(rng):
+def random_named(rng):
     kind = rng.random()
     if kind < 0.25:
         text = rng.choice(KNOWN)
-    elif kind < 0.96:
+    elif kind < 0.94:
         text = spelled(rng, random_tree(rng, rng.randint(1, 24), []), 'term')
     else:
-        long = rng.choice([rb'\x.x' + b' x' * 998, rb'\x.\y.x' + b' x' * 997, rb'\x.x' + b' x' * 1498])  # 3,000, 3,001 and 4,500 bytes when written
-        text = rng.choice([b' ' * rng.choice([2999, 3000, 3001]), long, long, b'(' * 700, b''])
+        text = rng.choice(LONG_NAMED + LONG_NAMED + [b' ' * rng.choice([2999, 3000, 3001]), b' ' * 3001, b'(' * 700, b''])
     if rng.random() < 0.25:
         text = bytearray(text)
         for _ in range(rng.randint(1, 2)):
@@ -100,6 +108,63 @@ def random_text(rng):
             text[at:at + rng.randint(0, 1)] = rng.choice([b'', b'X', b'(', b')', b'.', b'\\', b'9x', b'q', b'ninebytes', b' '])
         text = bytes(text)
     return text
+
+
+def random_parts(rng, size, depth):
+    """A term of about this many nodes under so many binders, in the number dialect; mostly applications, as above."""
+    least = 1 if depth else 2
+    kind = rng.random()
+    if size > 2 * least and kind < 0.65:
+        left = rng.randint(least, size - 1 - least)
+        return b'@ ' + random_parts(rng, left, depth) + b' ' + random_parts(rng, size - 1 - left, depth)
+    if depth and (size == 1 or kind < 0.7):
+        return b'%d' % rng.randrange(depth)
+    return b'\\ ' + random_parts(rng, size - 1, depth + 1)
+
+
+LONG_NUMBERED = 2 * [b'\\ ' * 517 + b'@ 516 507', b'\\ ' * 517 + b'@ 507 507'] + [  # 3,000 and 3,001 bytes when written with names
+    b'\\ ' * 1498 + b'1497', b'\\ ' * 1499 + b'10', b'\\ ' * 1499 + b'100',  # 3,000, 3,000 and 3,001 bytes
+    b'\\ ' + b'@ ' * 749 + b'0' + b' 0' * 749, b'\\ ' + b'@ 0 ' * 749 + b'0', b'\\ ' * 1500, b'@ ' * 1499 + b'0', b' ' * 3000,
+]
+
+# numbers that reach past the binders there are, though a remainder of theirs may not
+HUGE = [b'%d' % (2 ** k + j) for k in (8, 16, 32, 64, 128) for j in (-1, 0, 1)] + [b'1' + b'0' * 2900, b'7' * 2900]
+
+
+def damaged_numbers(rng, text):
+    """A byte or a part changed, left out or doubled."""
+    if rng.random() < 0.4:
+        at = rng.randint(0, len(text))
+        return text[:at] + rng.choice([b'', 2 * text[at:at + 1], b' ', b'\n', b'0', b'1', b'@', b'\\', b'x', b'\0', b'\xff']) + text[at + 1:]
+    parts = text.split(b' ')
+    at = rng.randrange(len(parts))
+    if rng.random() < 0.7:  # a number's place, if there is one
+        at = rng.choice([i for i, part in enumerate(parts) if part.isdigit()] or [at])
+    small, huge, other = b'%d' % rng.randint(0, 12), rng.choice(HUGE), rng.choice([b'', b'\\', b'@', b'x', b'-0', parts[at] + b'\n'])
+    parts[at:at + 1] = rng.choice([[], 2 * parts[at:at + 1], [b'0' + parts[at]], [small], [small], [huge], [other]])
+    return b' '.join(parts)
+
+
+def random_numbered(rng):
+    kind = rng.random()
+    if kind < 0.12:
+        text = rng.choice(LONG_NUMBERED)
+    elif kind < 0.2:
+        text = rng.choice([b'', b'0', b'\\', b'@', b' ', rb'\ 0', rb'@ \ @ 0 0 \ 0'])
+    else:
+        text = random_parts(rng, rng.randint(1, 24), 0)
+    return text if rng.random() < 0.7 else damaged_numbers(rng, text)
+
+
+# of each call that writes a text, the one that reads what it writes; of a conversion, the one that reads what it is given, and the one back
+READER = {'write': 'read', 'write_numbers': 'read_numbers', 'to_names': 'read', 'to_numbers': 'read_numbers'}
+SOURCE = {'to_names': 'read_numbers', 'to_numbers': 'read'}
+BACK = {'to_names': 'to_numbers', 'to_numbers': 'to_names'}
+
+
+def text_of(name, rows):
+    """The text that the call writes of accepted rows, however long."""
+    return reference.numbered(rows) if READER[name] == 'read_numbers' else reference.spelled(reference.named_tree(rows))
 
 
 # ---- damage: words that are near what is right
@@ -191,33 +256,49 @@ class Comparison:
         if got != want:
             raise AssertionError('%s\n   got %s\n  want %s' % (given, got, want))
 
-    def read(self, text):
+    def read(self, text, name):
         """Reads a text; the table and n."""
-        want = reference.read(text, 10 ** 9)[0]
+        meant = getattr(reference, name)
+        want = meant(text, 10 ** 9)[0]
         room = max(0, 5 * want + self.rng.choice([0, 0, 0, 1, 7, -1]))
         before = [self.rng.getrandbits(32) for _ in range(room)]
         table = Lent(self.rng, before)
-        got = self.lib.read(text, table.part)
-        n, refusal, words = reference.read(text, room)
-        self.same((got, table.now()), (yildreuz.Reading(n, refusal), words + before[len(words):]), ('read', text, room))
-        self.note('read', 'refused %d' % refusal if refusal else 'read')
+        got = getattr(self.lib, name)(text, table.part)
+        n, refusal, words = meant(text, room)
+        self.same((got, table.now()), (yildreuz.Reading(n, refusal), words + before[len(words):]), (name, text, room))
+        self.note(name, 'refused %d' % refusal if refusal else 'read')
         return table, n
 
-    def write(self, table, n):
+    def write(self, table, n, name):
         """Writes a table's text; where it is written, reading it gives the table back."""
-        w, rows = table.now(), reference.accepted(table.now(), n)
-        most = len(reference.spelled(reference.named_tree(rows))) if rows else 9
+        w = table.now()
+        written = self.put_down(name, reference.accepted(w, n), lambda text: getattr(self.lib, name)(table.part, n, text), w, n)
+        self.same(table.now(), w, (name, 'the table', w, n))
+        if written is not None:
+            self.same(getattr(reference, READER[name])(written, 5 * n), (n, 0, w[:5 * n]), ('read back', name, w, n))
+            self.read(written, READER[name])
+
+    def convert(self, text, name):
+        """Converts a text, and back at times; what is written reads to the table of the text given."""
+        n, refusal, w = getattr(reference, SOURCE[name])(text, 10 ** 9)
+        written = self.put_down(name, None if refusal else reference.accepted(w, n), lambda out: getattr(self.lib, name)(text, out), text)
+        if written is not None:
+            self.same(getattr(reference, READER[name])(written, 5 * n), (n, 0, w), ('read after', name, text))
+            if self.rng.random() < 0.5:
+                self.convert(written, BACK[name])
+
+    def put_down(self, name, rows, made, *given):
+        """A call that writes the text of rows, or refuses where there are none, into about as many bytes as that has; what is written, or None."""
+        most = len(text_of(name, rows)) if rows else 9
         room = self.rng.choice([most, most, most - 1, most + 1, most + self.rng.randint(2, 40), self.rng.randint(0, most), 0, 3000, 3500])
         before = [self.rng.getrandbits(8) for _ in range(room)]
-        text = Lent(self.rng, before, 'B')
-        got = self.lib.write(table.part, n, text.part)
-        length, refusal, written = reference.write(w, n, room)
-        self.same((got, table.now(), text.now()), (yildreuz.Written(length, refusal), w, list(written) + before[length:]), ('write', w, n, room))
+        out = Lent(self.rng, before, 'B')
+        got = made(out.part)
+        length, refusal, written = getattr(reference, name)(*given, room)
+        self.same((got, out.now()), (yildreuz.Written(length, refusal), list(written) + before[length:]), (name, *given, room))
         what = 'over 3,000 bytes' if 3000 < most <= room else 'refused %d' % refusal
-        self.note('write', what if refusal else '3,000 bytes' if length == 3000 else 'written')
-        if refusal == 0:
-            self.same(reference.read(written, 5 * n), (n, 0, w[:5 * n]), ('read back', w, n))
-            self.read(written)
+        self.note(name, what if refusal else '3,000 bytes' if length == 3000 else 'written')
+        return None if refusal else written
 
     def room(self):
         """How long a slice is: mostly enough, at times too short, and at times too long to be permitted."""
@@ -298,16 +379,22 @@ class Comparison:
     def walk(self):
         """A term, a session and some calls on it, damaged or not. What a damaged session or slice leads to is at times gone on with."""
         rng = self.rng
-        table, n = self.read(random_text(rng))
+        converts = rng.choice(['to_numbers', 'to_numbers', 'to_names'])
+        text = random_named(rng) if converts == 'to_numbers' else random_numbered(rng)
+        table, n = self.read(text, SOURCE[converts])
+        if rng.random() < 0.6:
+            self.convert(text, converts)
         if n == 0 and rng.random() < 0.9:
             return
         if rng.random() < 0.3:
-            self.write(Lent(rng, damaged(rng, table.now(), n)), near(rng, n))
+            self.write(Lent(rng, damaged(rng, table.now(), n)), near(rng, n), rng.choice(['write', 'write_numbers']))
         if rng.random() < 0.05:
             table, n = Lent(rng, damaged(rng, table.now(), n)), near(rng, n)
-        self.write(table, n)
+        for name in ('write', 'write_numbers'):
+            if rng.random() < 0.6:
+                self.write(table, n, name)
         s, log, tape = self.open(table, n)
-        for _ in range(rng.randint(1, 30)):
+        for _ in range(rng.randint(1, 30) if n < 1000 else 2):  # a large term takes long
             part = rng.random()
             if part < 0.7:
                 s = self.wind(table, n, s, log, tape).session
@@ -330,7 +417,7 @@ class Comparison:
         return ['%s: %s' % (call, what) for call, due in DUE.items() for what in sorted(due) if not self.seen[call, what]]
 
     def shown(self):
-        return ['%-10s %s' % (call, ', '.join('%s %d' % (what, k) for (c, what), k in sorted(self.seen.items()) if c == call)) for call in DUE]
+        return ['%-13s %s' % (call, ', '.join('%s %d' % (what, k) for (c, what), k in sorted(self.seen.items()) if c == call)) for call in DUE]
 
 
 # ---- what the wrapper itself must refuse, before the call
@@ -370,6 +457,19 @@ def refuses_misuse(lib):
         (ValueError, lambda: lib.write(table, n, memoryview(table).cast('B'))),
         (ValueError, lambda: lib.write(shared[2:4], n, memoryview(shared).cast('B')[15:])),
         (OverflowError, lambda: lib.write(table, -1, text)),
+        (TypeError, lambda: lib.read_numbers(4, table)),
+        (TypeError, lambda: lib.read_numbers('\\ 0', table)),
+        (TypeError, lambda: lib.read_numbers(rb'\ 0', bytes(40))),
+        (TypeError, lambda: lib.write_numbers(table, n, bytes(10))),
+        (TypeError, lambda: lib.write_numbers(table, n, log)),
+        (ValueError, lambda: lib.write_numbers(table, n, memoryview(table).cast('B'))),
+        (OverflowError, lambda: lib.write_numbers(table, yildreuz.GREATEST + 1, text)),
+        (TypeError, lambda: lib.to_numbers(4, text)),
+        (TypeError, lambda: lib.to_numbers('\\x.x', text)),
+        (TypeError, lambda: lib.to_numbers(rb'\x.x', bytes(10))),
+        (TypeError, lambda: lib.to_numbers(rb'\x.x', log)),
+        (TypeError, lambda: lib.to_names(rb'\ 0', b'')),
+        (TypeError, lambda: lib.to_names(rb'\ 0', memoryview(text)[::-1])),
     ]
     before = [list(x) for x in (table, log, tape, shared, text)]
     for number, (error, misuse) in enumerate(misuses):

@@ -1,13 +1,13 @@
 // What a host in another language holds and gets, in numbers: the structs of host/yildreuz.h.
 
-// What the reader answers. A refusal of 0 is none.
+// What the readers answer. A refusal of 0 is none.
 #[repr(C)]
 pub struct HostReading {
     pub n: u32,
     pub refusal: u32,
 }
 
-// What the writer answers. In a refusal the length is 0; a refusal of 0 is none.
+// What the calls that write a text answer. In a refusal the length is 0; a refusal of 0 is none.
 #[repr(C)]
 pub struct HostWritten {
     pub len: u32,

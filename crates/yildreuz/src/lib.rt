@@ -1,5 +1,7 @@
-// The reader, the writer and the calls on a session for a host in another language: host/yildreuz.h has the same structs and functions in C.
+// The readers, the writers, the conversions and the calls on a session for a host in another language: host/yildreuz.h has the same structs and functions in C.
 ghost use mathlib.Core.Path.{_≡_};
+ghost use Rattle.text.specs.Dialects.{writeNumbersOf, toNumbersOf, toNamesOf};
+ghost use Rattle.text.specs.NumberReading.{readNumbersOf};
 ghost use Rattle.text.specs.Reading.{readOf};
 ghost use Rattle.text.specs.Writing.{writeOf};
 ghost use Rattle.calls.specs.Calls.{openOf, forwardOf, backOf, goToOf};
@@ -50,6 +52,36 @@ pub extern "C" fn yildreuz_write(table: &[u32], n: u32, text: &mut [u8]) -> Host
     ensures { λ r. ⌜ (r, now (text .exit)) ≡ writeTold (writeOf (now (table .entry)) n (now (text .entry))) ⌝ }
 {
     written_told(writer::write(table, n, text))
+}
+
+// The same in the number dialect.
+#[no_mangle]
+pub extern "C" fn yildreuz_read_numbers(text: &[u8], table: &mut [u32]) -> HostReading
+    ensures { λ r. ⌜ (r, now (table .exit)) ≡ readTold (readNumbersOf (now (text .entry)) (now (table .entry))) ⌝ }
+{
+    reading_told(reader::read_numbers(text, table))
+}
+
+#[no_mangle]
+pub extern "C" fn yildreuz_write_numbers(table: &[u32], n: u32, text: &mut [u8]) -> HostWritten
+    ensures { λ r. ⌜ (r, now (text .exit)) ≡ writeTold (writeNumbersOf (now (table .entry)) n (now (text .entry))) ⌝ }
+{
+    written_told(writer::write_numbers(table, n, text))
+}
+
+// A conversion's answer, and the lent bytes as it leaves them.
+#[no_mangle]
+pub extern "C" fn yildreuz_to_numbers(text: &[u8], out: &mut [u8]) -> HostWritten
+    ensures { λ r. ⌜ (r, now (out .exit)) ≡ writeTold (toNumbersOf (now (text .entry)) (now (out .entry))) ⌝ }
+{
+    written_told(dialect::to_numbers(text, out))
+}
+
+#[no_mangle]
+pub extern "C" fn yildreuz_to_names(text: &[u8], out: &mut [u8]) -> HostWritten
+    ensures { λ r. ⌜ (r, now (out .exit)) ≡ writeTold (toNamesOf (now (text .entry)) (now (out .entry))) ⌝ }
+{
+    written_told(dialect::to_names(text, out))
 }
 
 // Open's answer, its session in numbers, and both slices as it leaves them. The others the same.

@@ -1,4 +1,4 @@
-// What the reader and the writer answer, for a host.
+// What the readers, the writers and the conversions answer, for a host.
 ghost use mathlib.Core.Path.{_≡_};
 ghost use mathlib.Core.List.{[]};
 ghost use Rattle.reader.specs.Types.{readMeant};
