@@ -33,6 +33,7 @@ pub record Begins (before s : List ℕ) (t : Term) (left : List ℕ) : Type 0 wh
   pub spells : before ++ (numberText t ++ left) ≡ s
   pub ends : digitsFirst left ≡ []
 
+-- The bytes from a position on do not begin so.
 abbrev pub NoPhrase : List ℕ → List ℕ → ℕ → Type 0
 NoPhrase before text at = (t : Term) (left : List ℕ) → Begins before (drop at text) t left → ⊥
 

@@ -2,7 +2,7 @@
 // is read. Document 02, change 7.
 ghost use mathlib.Core.Path.{_≡_};
 ghost use mathlib.Core.List.{[], _∷_};
-ghost use Prim.Native.Nat.{_+_, _-_, _*_, _≤_};
+ghost use Prim.Native.Nat.{_-_, _≤_};
 ghost use lib.ListN.{length, take, drop};
 ghost use Rattle.decimal.specs.Decimal.{valueAfter};
 ghost use Rattle.text.specs.Written.{space};
@@ -12,6 +12,7 @@ use crate::bytes::byte;
 use crate::grammar::Got;
 use crate::scan::digits_end;
 
+// An abstraction, an application or a number, which its first byte tells.
 pub(crate) fn phrase(text: &[u8], at: usize, depth: usize, out: &mut [u32], node: usize) -> Got
     requires { ⌜ PhraseRoom (now text) at depth (now out) node ⌝ }
     ensures { λ r. ⌜ PhraseRead [] (now (text .entry)) at depth (now (out .entry)) node r (now (out .exit)) ⌝ }
