@@ -1,209 +1,89 @@
--- What the calls answer: a refused one gives back what it was given, and any other winds from the state that lies in its slices.
-use mathlib.Core.Path.{_≡_, refl, sym, ap, _∙_}
-use mathlib.Core.Bool.{Bool, true, false}
-use mathlib.Core.Option.{Option, none, some, Option·some-ne-none}
+-- What every kind of call answers: refused, it gives back what it was given; else it winds from the state that lies in its slices. What holds of both holds of every answer.
+use mathlib.Core.Path.{_≡_, refl, ap, _∙_}
+use mathlib.Core.Option.{Option, none, some}
 use mathlib.Core.List.{List}
-use Prim.Native.Nat.{ℕ, _≤_, _<_}
-use native.Mathlib.Omega.{arith}
-use lib.ListN.{length}
-use lib.Dec.{leb}
-use Rattle.term.specs.Choice.{choose}
+use Prim.Native.Nat.{ℕ, _≤_}
+use Rattle.term.specs.Choice.{ifSome}
 use Rattle.term.specs.Table.{Table, tableIn}
-use Rattle.term.specs.Accepted.{Accepted, accepted}
-use Rattle.term.proofs.Accepted.{accepts-all, accepts-only}
-use Rattle.term.proofs.Facts.{accepted-facts}
-use Rattle.machine.specs.Entries.{logWords, tapeWords}
+use Rattle.term.specs.Accepted.{Accepted}
 use Rattle.machine.specs.Machine.{State}
 use Rattle.machine.specs.Good.{Good}
-use Rattle.machine.proofs.Load.{slice-length}
 use Rattle.calls.specs.Session.{refused, Outcome, Given}
-use Rattle.calls.specs.Stops.{Way, forward, back, Moment, moment, Room, room}
-use Rattle.calls.specs.Winding.{Run, wind}
-use Rattle.calls.specs.Held.{Holds}
-use Rattle.calls.specs.Calls.{longest, lentNumber, stateGiven, callNumber, Enters, sessionAt, logSlice, tapeSlice, refusedOutcome, wound, outcomeBy, windOf, goToOf}
-use Rattle.calls.specs.Visits.{Spot, seek, seekBack, offTerm, visitNumber, backToOf, forwardToOf}
-use Rattle.calls.specs.Demand.{Move, by, go-to, back-to, forward-to, outcomeOf, Standing, givenTo, RefusedCall}
-use Rattle.calls.proofs.Held.{held-exactly}
-use Rattle.calls.proofs.Unrefused.{lent-seven, lent-log-eight, lent-tape-eight, lent-unrefused, call-as-lent, call-nine, call-unrefused, visit-as-call, visit-unrefused}
+use Rattle.calls.specs.Stops.{Moment, moment, Room, room}
+use Rattle.calls.specs.Calls.{longest, callTests, callNumber, Enters, refusedOutcome, wound}
+use Rattle.calls.specs.Moves.{Move, outcomeOf, ownTests, ownNumber}
+use Rattle.calls.specs.Demand.{givenTo, RefusedCall}
+use Rattle.calls.proofs.Order.{first-of-both}
 use Rattle.calls.proofs.Stops.{Fits}
-use Rattle.calls.proofs.Visits.{Unrefused, wind-unrefused, seek-unrefused, seek-back-unrefused}
+use Rattle.calls.proofs.Visits.{Unrefused, found-unrefused, none-unrefused, wind-unrefused}
+use Rattle.calls.proofs.Entering.{state-given, enters-unrefused, entered, laidDown, laid-room, laid-enters}
+use Rattle.calls.proofs.MoveLaws.{runOf, moveNumber, OfWalks}
+use Rattle.calls.proofs.EachMove.{laws}
 
 -- a refused call
 pub as-given : (k : ℕ) (g : Given) → RefusedCall g (refusedOutcome k g)
 as-given k g = record { session-is = refl; log-is = refl; tape-is = refl; no-steps = refl; no-peak = refl; nothing-carried = refl }
 
-unchanged : (o : Option ℕ) (s : Option State) (g : Given) (run : Moment → Run) → ((m : Moment) → Unrefused (run m .stop)) → (k : ℕ)
-    → outcomeBy o s g run .stop ≡ refused k → RefusedCall g (outcomeBy o s g run)
-unchanged (some j) s g run stops k e = as-given j g
-unchanged none none g run stops k e = as-given 9 g
-unchanged none (some s) g run stops k e = absurd (stops (moment s (g .session .position)) k e)
+-- No walk ends in a refusal.
+pub run-unrefused : (m : Move) (T : Table) (r : Room) (x : Moment) → Unrefused (runOf m T r x .stop)
+run-unrefused m T r x =
+    laws m .walks T r (λ run. Unrefused (run .stop)) x (record { walk = λ way c. wind-unrefused way T r c x; found = λ way c. found-unrefused; none = none-unrefused })
 
--- what holds of forward and of back by a count holds of go-to
-pub either-way : (P : Outcome → Type 0) (b : Bool) (x y : Unit {0} → Outcome) → ((i : Unit {0}) → P (x i)) → ((i : Unit {0}) → P (y i)) → P (choose b x y)
-either-way P true x y f h = f tt
-either-way P false x y f h = h tt
+module _ (m : Move) (g : Given) where
+  -- Its number is that of 7 to 9, and else its own.
+  number-by : moveNumber m g ≡ ifSome (callNumber g) (λ k. some k) (λ _. ownNumber m (g .n) (g .session .position))
+  unfolding callNumber
+  number-by = first-of-both (callTests g) (ownTests m (g .n) (g .session .position))
 
-module _ (g : Given) (k : ℕ) where
-  pub wind-refused : (way : Way) → callNumber g ≡ some k → (c : ℕ) → windOf way g c ≡ refusedOutcome k g
-  unfolding windOf
-  wind-refused way e c = rw e
+  module _ (k : ℕ) where
+    pub by-number : moveNumber m g ≡ some k → outcomeOf m g ≡ refusedOutcome k g
+    by-number e = laws m .shape g ∙ rw e
 
-  wind-unchanged : (way : Way) (c : ℕ) → windOf way g c .stop ≡ refused k → RefusedCall g (windOf way g c)
-  unfolding windOf
-  wind-unchanged way c e =
-      let T : Table = tableIn (g .table) (g .n) in
-      let r : Room = room (g .log) (g .tape) in
-      unchanged (callNumber g) (stateGiven g) g (λ m. wind way T r c m) (λ m. wind-unrefused way T r c m) k e
+    pub move-refused : callNumber g ≡ some k → outcomeOf m g ≡ refusedOutcome k g
+    move-refused e = by-number (rw (number-by, e))
 
-  -- to a spot
-  to-spot : (v : Spot) (run : Moment → Run) → visitNumber (v .node) g ≡ some k → outcomeBy (visitNumber (v .node) g) (stateGiven g) g run ≡ refusedOutcome k g
-  to-spot v run e = rw e
+    pub own-refused : callNumber g ≡ none → ownNumber m (g .n) (g .session .position) ≡ some k → outcomeOf m g ≡ refusedOutcome k g
+    own-refused e o = by-number (rw (number-by, e) o)
 
-  pub back-to-refused : (v : Spot) → visitNumber (v .node) g ≡ some k → backToOf g v ≡ refusedOutcome k g
-  unfolding backToOf
-  back-to-refused v e = to-spot v _ e
+  -- A call that enters at a state, and is not turned away, winds from it.
+  pub moved : (s : State) → Enters g s → ownNumber m (g .n) (g .session .position) ≡ none
+      → outcomeOf m g ≡ wound (room (g .log) (g .tape)) (runOf m (tableIn (g .table) (g .n)) (room (g .log) (g .tape)) (moment s (g .session .position)))
+  moved s h o = laws m .shape g ∙ rw (number-by, enters-unrefused g s h, o, state-given g s h)
 
-  pub forward-to-refused : (v : Spot) (c : ℕ) → visitNumber (v .node) g ≡ some k → forwardToOf g v c ≡ refusedOutcome k g
-  unfolding forwardToOf
-  forward-to-refused v c e = to-spot v _ e
-
-  pub move-refused : (m : Move) → callNumber g ≡ some k → outcomeOf m g ≡ refusedOutcome k g
-  unfolding goToOf
-  move-refused (by way c) e = wind-refused way e c
-  move-refused (back-to v) e = back-to-refused v (visit-as-call (v .node) g k e)
-  move-refused (forward-to v c) e = forward-to-refused v c (visit-as-call (v .node) g k e)
-  move-refused (go-to q) e = either-way (λ o. o ≡ refusedOutcome k g) (leb (g .session .position) q) _ _ (λ i. wind-refused forward e _) (λ i. wind-refused back e _)
-
-  pub refused-unchanged : (m : Move) → outcomeOf m g .stop ≡ refused k → RefusedCall g (outcomeOf m g)
-  unfolding goToOf backToOf forwardToOf
-  refused-unchanged (by way c) e = wind-unchanged way c e
-  refused-unchanged (back-to v) e =
-      let T : Table = tableIn (g .table) (g .n) in
-      let r : Room = room (g .log) (g .tape) in
-      unchanged (visitNumber (v .node) g) (stateGiven g) g (λ m. seekBack T r v m) (λ m. seek-back-unrefused T r v m) k e
-  refused-unchanged (forward-to v c) e =
-      let T : Table = tableIn (g .table) (g .n) in
-      let r : Room = room (g .log) (g .tape) in
-      unchanged (visitNumber (v .node) g) (stateGiven g) g (λ m. seek forward T r v c m) (λ m. seek-unrefused T r v c m) k e
-  refused-unchanged (go-to q) e =
-      either-way (λ o. o .stop ≡ refused k → RefusedCall g o) (leb (g .session .position) q) _ _ (λ i. wind-unchanged forward _) (λ i. wind-unchanged back _) e
-
--- A call that enters at a state winds from it.
-module _ (g : Given) (s : State) (h : Enters g s) where
-  pub state-given : stateGiven g ≡ some s
-  state-given = held-exactly (tableIn (g .table) (g .n)) (accepted-facts (g .table) (g .n) (h .accepted-table)) (g .session) (g .log) (g .tape) s .1 (h .holds)
-
-  pub enters-unrefused : callNumber g ≡ none
-  enters-unrefused =
-      call-unrefused g
-      (lent-unrefused (g .table) (g .n) (g .log) (g .tape) (accepts-all (g .table) (g .n) (h .accepted-table)) (h .short-log) (h .short-tape))
-      s state-given
-
-  -- its lists fit the slices
-  pub enters-fits : Fits (room (g .log) (g .tape)) s
-  enters-fits = record { log-fits = rw (h .holds .log-length) at (h .holds .log-fits); tape-fits = rw (h .holds .tape-length) at (h .holds .tape-fits) }
-
-  -- to a spot of the term
-  module _ (v : Spot) (on : offTerm (g .n) (v .node) ≡ false) where
-    pub seeks-back : backToOf g v ≡ wound (room (g .log) (g .tape)) (seekBack (tableIn (g .table) (g .n)) (room (g .log) (g .tape)) v (moment s (g .session .position)))
-    unfolding backToOf
-    seeks-back = rw (visit-unrefused (v .node) g enters-unrefused on, state-given)
-
-    pub seeks-forward : (c : ℕ)
-        → forwardToOf g v c ≡ wound (room (g .log) (g .tape)) (seek forward (tableIn (g .table) (g .n)) (room (g .log) (g .tape)) v c (moment s (g .session .position)))
-    unfolding forwardToOf
-    seeks-forward c = rw (visit-unrefused (v .node) g enters-unrefused on, state-given)
-
-  pub winds : (way : Way) (c : ℕ)
-      → windOf way g c ≡ wound (room (g .log) (g .tape)) (wind way (tableIn (g .table) (g .n)) (room (g .log) (g .tape)) c (moment s (g .session .position)))
-  unfolding windOf
-  winds way c = rw (enters-unrefused, state-given)
-
--- A call that no number refuses enters at a state.
-pub entered : (g : Given) → callNumber g ≡ none → (s : State) × Enters g s
-entered g e = by-table (accepted (g .table) (g .n)) refl
-  where
-    lent-clash : {k : ℕ} → lentNumber (g .table) (g .n) (g .log) (g .tape) ≡ some k → ⊥
-    lent-clash {k} h = Option·some-ne-none k (sym (call-as-lent g k h) ∙ e)
-
-    by-table : (b : Bool) → accepted (g .table) (g .n) ≡ b → (s : State) × Enters g s
-    by-table false a = absurd (lent-clash (lent-seven (g .table) (g .n) (g .log) (g .tape) a))
-    by-table true a = by-state (stateGiven g) refl
+  -- What holds of a refusal and of its walk holds of its answer.
+  module _ (P : Outcome → Type 0) (refuses : (k : ℕ) → P (refusedOutcome k g))
+      (runs : (s : State) → Enters g s → P (wound (room (g .log) (g .tape)) (runOf m (tableIn (g .table) (g .n)) (room (g .log) (g .tape)) (moment s (g .session .position))))) where
+    pub each-answer : P (outcomeOf m g)
+    each-answer = by-call (callNumber g) refl
       where
-        short-log : length (g .log) ≤ longest
-        short-log = let h : ¬ (longest < length (g .log)) = λ h. lent-clash (lent-log-eight (g .table) (g .n) (g .log) (g .tape) a h) in omega arith
+        by-own : callNumber g ≡ none → (o : Option ℕ) → ownNumber m (g .n) (g .session .position) ≡ o → P (outcomeOf m g)
+        by-own e (some k) o = rw (own-refused k e o) (refuses k)
+        by-own e none o = let (s, h) = entered g e in rw (moved s h o) (runs s h)
 
-        short-tape : length (g .tape) ≤ longest
-        short-tape = let h : ¬ (longest < length (g .tape)) = λ h. lent-clash (lent-tape-eight (g .table) (g .n) (g .log) (g .tape) a h) in omega arith
+        by-call : (o : Option ℕ) → callNumber g ≡ o → P (outcomeOf m g)
+        by-call (some k) e = rw (move-refused k e) (refuses k)
+        by-call none e = by-own e (ownNumber m (g .n) (g .session .position)) refl
 
-        table : Accepted (g .table) (g .n)
-        table = accepts-only (g .table) (g .n) a
+  pub each-outcome : (P : Outcome → Type 0) → ((k : ℕ) → P (refusedOutcome k g))
+      → ((s : State) → Enters g s → OfWalks (tableIn (g .table) (g .n)) (room (g .log) (g .tape)) (λ run. P (wound (room (g .log) (g .tape)) run)) (moment s (g .session .position)))
+      → P (outcomeOf m g)
+  each-outcome P refuses walks =
+      each-answer P refuses
+      (λ s h. laws m .walks (tableIn (g .table) (g .n)) (room (g .log) (g .tape)) (λ run. P (wound (room (g .log) (g .tape)) run)) (moment s (g .session .position)) (walks s h))
 
-        by-state : (o : Option State) → stateGiven g ≡ o → (s : State) × Enters g s
-        by-state none h =
-            absurd (Option·some-ne-none 9
-            (sym (call-nine g (lent-unrefused (g .table) (g .n) (g .log) (g .tape) a short-log short-tape) h) ∙ e))
-        by-state (some s) h = (
-          s,
-          record {
-            accepted-table = table;
-            short-log = short-log;
-            short-tape = short-tape;
-            holds = held-exactly (tableIn (g .table) (g .n)) (accepted-facts (g .table) (g .n) table) (g .session) (g .log) (g .tape) s .0 h;
-          },
-        )
-
--- A moment as what stands between two calls: its session, and its lists laid down in the slices.
-abbrev pub laidDown : Room → Moment → Standing
-laidDown r m = record { session = sessionAt m; log = logSlice r m; tape = tapeSlice r m }
-
--- What stands is this for a state that it holds.
-pub held-laid-down : (T : Table) (st : Standing) (s : State) → Holds T (st .session) (st .log) (st .tape) s → st ≡ laidDown (room (st .log) (st .tape)) (moment s (st .session .position))
-held-laid-down T st s h = λ i. record {
-  session = record { node = h .node-is i; dir = h .dir-is i; position = st .session .position; logLength = h .log-length i; tapeLength = h .tape-length i };
-  log = h .log-lies i;
-  tape = h .tape-lies i;
-}
+  pub refused-unchanged : (k : ℕ) → outcomeOf m g .stop ≡ refused k → RefusedCall g (outcomeOf m g)
+  refused-unchanged k =
+      each-answer (λ o. o .stop ≡ refused k → RefusedCall g o) (λ j e. as-given j g)
+      (λ s h e. absurd (run-unrefused m (tableIn (g .table) (g .n)) (room (g .log) (g .tape)) (moment s (g .session .position)) k e))
 
 -- A call on a good state laid down in slices that it fits.
-module _ (r : Room) (m : Moment) (fits : Fits r (m .state)) where
-  laid-log-length : length (logSlice r m) ≡ r .log
-  laid-log-length = slice-length (r .log) (logWords (m .state .log)) (fits .log-fits)
+module _ (m : Move) (r : Room) (x : Moment) (fits : Fits r (x .state)) (w : List ℕ) (n : ℕ) (A : Accepted w n) (good : Good (tableIn w n) (x .state))
+    (short-log : r .log ≤ longest) (short-tape : r .tape ≤ longest) where
+  pub laid-moved : ownNumber m n (x .position) ≡ none → outcomeOf m (givenTo w n (laidDown r x)) ≡ wound r (runOf m (tableIn w n) r x)
+  laid-moved o =
+      moved m (givenTo w n (laidDown r x)) (x .state) (laid-enters r x fits w n A good short-log short-tape) o
+      ∙ ap (λ q. wound q (runOf m (tableIn w n) q x)) (laid-room r x fits)
 
-  laid-tape-length : length (tapeSlice r m) ≡ r .tape
-  laid-tape-length = slice-length (r .tape) (tapeWords (m .state .tape)) (fits .tape-fits)
-
-  pub laid-room : room (logSlice r m) (tapeSlice r m) ≡ r
-  laid-room = λ i. record { log = laid-log-length i; tape = laid-tape-length i }
-
-  laid-holds : (T : Table) → Good T (m .state) → Holds T (sessionAt m) (logSlice r m) (tapeSlice r m) (m .state)
-  laid-holds T good = record {
-    node-is = refl;
-    dir-is = refl;
-    good = good;
-    log-fits = rw laid-log-length (fits .log-fits);
-    tape-fits = rw laid-tape-length (fits .tape-fits);
-    log-length = refl;
-    tape-length = refl;
-    log-lies = rw laid-log-length refl;
-    tape-lies = rw laid-tape-length refl;
-  }
-
-  module _ (w : List ℕ) (n : ℕ) (A : Accepted w n) (good : Good (tableIn w n) (m .state)) (short-log : r .log ≤ longest) (short-tape : r .tape ≤ longest) where
-    pub laid-enters : Enters (givenTo w n (laidDown r m)) (m .state)
-    laid-enters = record {
-      accepted-table = A;
-      short-log = rw laid-log-length short-log;
-      short-tape = rw laid-tape-length short-tape;
-      holds = laid-holds (tableIn w n) good;
-    }
-
-    module _ (v : Spot) (on : offTerm n (v .node) ≡ false) where
-      pub laid-seeks-back : backToOf (givenTo w n (laidDown r m)) v ≡ wound r (seekBack (tableIn w n) r v m)
-      laid-seeks-back = seeks-back (givenTo w n (laidDown r m)) (m .state) laid-enters v on ∙ ap (λ q. wound q (seekBack (tableIn w n) q v m)) laid-room
-
-      pub laid-seeks-forward : (c : ℕ) → forwardToOf (givenTo w n (laidDown r m)) v c ≡ wound r (seek forward (tableIn w n) r v c m)
-      laid-seeks-forward c = seeks-forward (givenTo w n (laidDown r m)) (m .state) laid-enters v on c ∙ ap (λ q. wound q (seek forward (tableIn w n) q v c m)) laid-room
-
-    pub laid-winds : (way : Way) (c : ℕ) → windOf way (givenTo w n (laidDown r m)) c ≡ wound r (wind way (tableIn w n) r c m)
-    laid-winds way c = winds (givenTo w n (laidDown r m)) (m .state) laid-enters way c ∙ ap (λ q. wound q (wind way (tableIn w n) q c m)) laid-room
+  pub laid-refused : (k : ℕ) → ownNumber m n (x .position) ≡ some k → outcomeOf m (givenTo w n (laidDown r x)) ≡ refusedOutcome k (givenTo w n (laidDown r x))
+  laid-refused k o =
+      own-refused m (givenTo w n (laidDown r x)) k (enters-unrefused (givenTo w n (laidDown r x)) (x .state) (laid-enters r x fits w n A good short-log short-tape)) o

@@ -7,32 +7,19 @@ use Rattle.term.specs.Table.{Table, tableIn}
 use Rattle.term.specs.Facts.{Facts}
 use Rattle.term.proofs.Facts.{accepted-facts}
 use Rattle.machine.specs.Machine.{State}
-use Rattle.calls.specs.Session.{Stop, spent, Outcome, Given}
+use Rattle.calls.specs.Session.{Stop, spent, Given}
 use Rattle.calls.specs.Stops.{forward, back, Moment, moment, Room, room, greatest}
-use Rattle.calls.specs.Weight.{weight}
 use Rattle.calls.specs.Winding.{Run, wind}
-use Rattle.calls.specs.Calls.{callNumber, Enters, wound, forwardOf, backOf}
+use Rattle.calls.specs.Calls.{callNumber, Enters, wound, backOf}
 use Rattle.calls.specs.Visits.{Spot, offTerm, backToOf}
-use Rattle.calls.specs.Demand.{Standing, leftBy, givenTo}
+use Rattle.calls.specs.Moves.{by, back-to}
+use Rattle.calls.specs.Demand.{Standing}
+use Rattle.calls.specs.Trips.{forwardBy, Restored, Unmoved}
 use Rattle.calls.proofs.Stops.{Fits}
-use Rattle.calls.proofs.Unrefused.{visit-twelve}
 use Rattle.calls.proofs.Visits.{each-sought, sought-back, found-not-none, none-unrefused}
 use Rattle.calls.proofs.Retrace.{Backed, backed, Again, again}
-use Rattle.calls.proofs.Answers.{back-to-refused, entered, enters-unrefused, enters-fits, winds, seeks-back, laidDown, held-laid-down, laid-winds}
-use Rattle.calls.proofs.RoundTrip.{Restored}
-
--- the call forward on what a call on g left, by the steps that it made
-abbrev pub forwardBy : Given → Outcome → Outcome
-forwardBy g o = forwardOf (givenTo (g .table) (g .n) (leftBy o)) (o .steps)
-
--- a call back that says none: what was given, no step, the present state's own weight, and nothing carried, whatever its search carried
-pub record Unmoved (g : Given) (s : State) (o : Outcome) : Type 0 where
-  pub session-is : o .session ≡ g .session
-  pub log-is : o .log ≡ g .log
-  pub tape-is : o .tape ≡ g .tape
-  pub no-steps : o .steps ≡ 0
-  pub own-weight : o .peak ≡ weight (tableIn (g .table) (g .n)) s
-  pub nothing-carried : o .carried ≡ 0
+use Rattle.calls.proofs.Entering.{entered, enters-unrefused, enters-fits, laidDown, held-laid-down}
+use Rattle.calls.proofs.Answers.{own-refused, moved, laid-moved}
 
 module _ (g : Given) (s : State) (h : Enters g s) where
   abbrev T : Table
@@ -70,19 +57,19 @@ module _ (g : Given) (s : State) (h : Enters g s) where
     forward-home : forwardBy g (wound r out) ≡ wound r home
     forward-home =
         let b : Backed T r here out = backed T r facts c here (h .holds .good) fits in
-        laid-winds r (out .last) (b .fits) (g .table) (g .n) (h .accepted-table) (b .good) (h .short-log) (h .short-tape) forward (out .steps)
+        laid-moved (by forward (out .steps)) r (out .last) (b .fits) (g .table) (g .n) (h .accepted-table) (b .good) (h .short-log) (h .short-tape) refl
 
     wound-back : Restored g (backOf g c) (forwardBy g (backOf g c)) × (forwardBy g (backOf g c) .stop ≡ spent)
     wound-back =
         let there : laidDown r (home .last) ≡ given = laid-as-given (came .last-is) in
-        rw (winds g s h back c, forward-home) (
+        rw (moved (by back c) g s h refl, forward-home) (
           record { session-is = ap (λ x. x .session) there; log-is = ap (λ x. x .log) there; tape-is = ap (λ x. x .tape) there; steps-are = came .steps-are; carried-is = came .carried-is },
           came .spent-is,
         )
 
   none-unmoved : (v : Spot) → offTerm (g .n) (v .node) ≡ false → backToOf g v .stop ≡ Stop.none → Unmoved g s (backToOf g v)
   none-unmoved v on =
-      rw (seeks-back g s h v on)
+      rw (moved (back-to v) g s h (rw on))
       (each-sought (λ x. x .stop ≡ Stop.none → Unmoved g s (wound r x)) (λ k f e. absurd (found-not-none e))
       (λ e.
       let there : laidDown r here ≡ given = laid-as-given refl in
@@ -100,4 +87,4 @@ none-gives-back g s h v e = by-node (offTerm (g .n) (v .node)) refl
     by-node : (b : Bool) → offTerm (g .n) (v .node) ≡ b → Unmoved g s (backToOf g v)
     by-node false on = none-unmoved g s h v on e
     by-node true off =
-        absurd (none-unrefused 12 (sym e ∙ ap (λ x. x .stop) (back-to-refused g 12 v (visit-twelve (v .node) g (enters-unrefused g s h) off))))
+        absurd (none-unrefused 12 (sym e ∙ ap (λ x. x .stop) (own-refused (back-to v) g 12 (enters-unrefused g s h) (rw off))))

@@ -10,11 +10,11 @@ use Rattle.calls.specs.Session.{Given}
 use Rattle.calls.specs.Stops.{Way, forward, back, Moment, moment, Room, room, logSize, nextBy}
 use Rattle.calls.specs.Winding.{carriedBy, wind}
 use Rattle.calls.specs.Calls.{longest, Enters}
-use Rattle.calls.specs.Demand.{Move, outcomeOf}
+use Rattle.calls.specs.Moves.{Move, outcomeOf}
 use Rattle.calls.proofs.Stops.{Fits, fits-next}
 use Rattle.calls.proofs.Winds.{next-is, each-run}
-use Rattle.calls.proofs.Answers.{enters-fits}
-use Rattle.calls.proofs.Outcomes.{each-outcome}
+use Rattle.calls.proofs.Entering.{enters-fits}
+use Rattle.calls.proofs.Answers.{each-outcome}
 
 -- A step either way carries the words by which the log grows or shrinks,
 pub step-carries : (way : Way) (T : Table) (m u : Moment) → nextBy way T m ≡ some u
@@ -42,7 +42,7 @@ run-carries-few way T r short =
 -- and a call at most that for each of its steps:
 pub carries-few : (m : Move) (g : Given) → outcomeOf m g .carried ≤ longest * outcomeOf m g .steps
 carries-few m g =
-    each-outcome g (λ o. o .carried ≤ longest * o .steps) (λ k. zero-le) (λ s h. record { walk = from-here s h; found = from-here s h; none = zero-le }) m
+    each-outcome m g (λ o. o .carried ≤ longest * o .steps) (λ k. zero-le) (λ s h. record { walk = from-here s h; found = from-here s h; none = zero-le })
   where
     from-here : (s : State) → Enters g s → (way : Way) (c : ℕ)
         → (let run = wind way (tableIn (g .table) (g .n)) (room (g .log) (g .tape)) c (moment s (g .session .position)) in run .carried ≤ longest * run .steps)

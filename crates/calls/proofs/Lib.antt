@@ -11,8 +11,12 @@ pub mod Peaks
 pub mod Runs
 pub mod Retrace
 pub mod Nowhere
+pub mod Entering
+pub mod MoveLaws
+pub mod Counts
+pub mod Spots
+pub mod EachMove
 pub mod Answers
-pub mod Outcomes
 pub mod Top
 pub mod Weight
 pub mod Carried

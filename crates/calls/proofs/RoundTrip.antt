@@ -9,28 +9,20 @@ use Rattle.term.specs.Facts.{Facts}
 use Rattle.term.proofs.Facts.{accepted-facts}
 use Rattle.machine.specs.Machine.{State}
 use Rattle.machine.specs.Carried.{carriedOver}
-use Rattle.calls.specs.Session.{Outcome, Given}
+use Rattle.calls.specs.Session.{Given}
 use Rattle.calls.specs.Stops.{forward, back, moment, Room, room}
 use Rattle.calls.specs.Winding.{Run, wind}
-use Rattle.calls.specs.Calls.{callNumber, Enters, wound, forwardOf, backOf}
-use Rattle.calls.specs.Demand.{Standing, leftBy, givenTo}
+use Rattle.calls.specs.Calls.{callNumber, Enters, wound, forwardOf}
+use Rattle.calls.specs.Moves.{by}
+use Rattle.calls.specs.Demand.{Standing}
+use Rattle.calls.specs.Trips.{backBy, Restored}
 use Rattle.calls.proofs.Stops.{Fits}
 use Rattle.calls.proofs.Runs.{Trail, begun, trail-none, trail-fits, trail-good, On, forward-on, Off, back-off}
-use Rattle.calls.proofs.Answers.{wind-refused, entered, winds, laidDown, held-laid-down, enters-fits, laid-winds}
-
--- the call back on what a call on g left, by the steps that it made
-abbrev pub backBy : Given → Outcome → Outcome
-backBy g o = backOf (givenTo (g .table) (g .n) (leftBy o)) (o .steps)
-
-pub record Restored (g : Given) (a b : Outcome) : Type 0 where
-  pub session-is : b .session ≡ g .session
-  pub log-is : b .log ≡ g .log
-  pub tape-is : b .tape ≡ g .tape
-  pub steps-are : b .steps ≡ a .steps
-  pub carried-is : b .carried ≡ a .carried
+use Rattle.calls.proofs.Entering.{entered, laidDown, held-laid-down, enters-fits}
+use Rattle.calls.proofs.Answers.{move-refused, moved, laid-moved}
 
 refused-trip : (g : Given) (c k : ℕ) → callNumber g ≡ some k → Restored g (forwardOf g c) (backBy g (forwardOf g c))
-refused-trip g c k e = rw (wind-refused g k forward e c, wind-refused g k back e 0) (record { session-is = refl; log-is = refl; tape-is = refl; steps-are = refl; carried-is = refl })
+refused-trip g c k e = rw (move-refused (by forward c) g k e, move-refused (by back 0) g k e) (record { session-is = refl; log-is = refl; tape-is = refl; steps-are = refl; carried-is = refl })
 
 module _ (g : Given) (c : ℕ) (s : State) (h : Enters g s) where
   abbrev T′ : Table
@@ -78,15 +70,15 @@ module _ (g : Given) (c : ℕ) (s : State) (h : Enters g s) where
 
   back-home : backBy g (wound r out) ≡ wound r home
   back-home =
-      laid-winds r (out .last) (trail-fits T′ r s fits trail) (g .table) (g .n) (h .accepted-table) (trail-good T′ r s facts (h .holds .good) trail)
-      (h .short-log) (h .short-tape) back (out .steps)
+      laid-moved (by back (out .steps)) r (out .last) (trail-fits T′ r s fits trail) (g .table) (g .n) (h .accepted-table) (trail-good T′ r s facts (h .holds .good) trail)
+      (h .short-log) (h .short-tape) refl
 
   -- Each step taken back carries what it carried.
   same-sum : home .carried ≡ out .carried
   same-sum = off .carried-is ∙ ap₂ (carriedOver T′ s) (omega arith) (omega arith) ∙ sym (on .carried-is)
 
   wound-trip : Restored g (forwardOf g c) (backBy g (forwardOf g c))
-  wound-trip = rw (winds g s h forward c, back-home)
+  wound-trip = rw (moved (by forward c) g s h refl, back-home)
       (record { session-is = ap (λ x. x .session) home-is; log-is = ap (λ x. x .log) home-is; tape-is = ap (λ x. x .tape) home-is; steps-are = off .steps-are ∙ omega arith; carried-is = same-sum })
 
 -- A refused call makes no step, and the call back is refused as it was.

@@ -15,7 +15,7 @@ use Rattle.machine.proofs.Sums.{after-carries, over-none, over-first, over-last
 use Rattle.calls.specs.Session.{Stop, spent, jam, far, logFull, tapeFull, found, answer, refused}
 use Rattle.calls.specs.Stops.{forward, back, Moment, moment, Room, greatest, stopBefore}
 use Rattle.calls.specs.Winding.{Run, ended, longer, wind}
-use Rattle.calls.specs.Demand.{stopAfter, allowed}
+use Rattle.calls.specs.Allowed.{stopAfter, allowed}
 use Rattle.calls.proofs.Stops.{Fits, spent-first, start-before-jam, no-halt-back, halt-before-full, no-stop-next, Goes, goes}
 use Rattle.calls.proofs.Winds.{each-run}
 

@@ -12,7 +12,7 @@ use Rattle.term.specs.Accepted.{Accepted}
 use Rattle.term.proofs.Table.{ignored, accepted-ignores}
 use Rattle.term.proofs.Facts.{accepted-facts}
 use Rattle.machine.specs.Entries.{entry, Log, ε, _▸_, Item, bullet, held, Tape, itemWords, logWords, tapeWords}
-use Rattle.machine.specs.Machine.{State, startState}
+use Rattle.machine.specs.Machine.{State}
 use Rattle.machine.specs.Good.{TapeIn, Good}
 use Rattle.machine.specs.Slice.{slice, readTape}
 use Rattle.machine.proofs.Load.{words-above, tape-read}
@@ -25,7 +25,7 @@ use Rattle.calls.specs.Demand.{Standing, givenTo, AsPlain}
 use Rattle.calls.proofs.Order.{first-of-both}
 use Rattle.calls.proofs.Unrefused.{call-names}
 use Rattle.calls.proofs.Stops.{Fits}
-use Rattle.calls.proofs.Answers.{state-given, enters-unrefused, entered, laidDown, laid-enters}
+use Rattle.calls.proofs.Entering.{state-given, enters-unrefused, entered, laidDown, laid-enters}
 
 -- the words xs on top of ys, where they lie in the slice
 words-there : (room : ℕ) (xs ys : List ℕ) → take (length xs) (drop (length ys) (slice room (xs ++ ys))) ≡ reverse xs
@@ -226,16 +226,16 @@ laid-fits room ws s e long =
 
 -- Where what stands is the plain machine's after p steps, as it is after every list of the third demand, top shows what is on top of the plain machine's own list.
 pub plain-shown : (w u : List ℕ) (n : ℕ) → Accepted w n → take (5 * n) u ≡ take (5 * n) w → (r : Room) → r .log ≤ longest → r .tape ≤ longest
-    → (p : ℕ) (st : Standing) (plain : AsPlain (tableIn w n) startState r p st) → length (st .log) ≡ r .log → length (st .tape) ≡ r .tape
+    → (s₀ : State) → Good (tableIn w n) s₀ → (p : ℕ) (st : Standing) (plain : AsPlain (tableIn w n) s₀ r p st) → length (st .log) ≡ r .log → length (st .tape) ≡ r .tape
     → (which : Which) → topOf which (givenTo u n st) ≡ topBy none (shows which (plain .state))
-plain-shown w u n A same r short-log short-tape p st plain log-long tape-long which =
+plain-shown w u n A same r short-log short-tape s₀ good₀ p st plain log-long tape-long which =
     let s = plain .state in
     let laid : laidDown r (moment s p) ≡ st = λ i. record { session = sym (plain .session-is) i; log = sym (plain .log-is) i; tape = sym (plain .tape-is) i } in
     let fits : Fits r s = record {
       log-fits = laid-fits (r .log) (logWords (s .log)) (st .log) (plain .log-is) log-long;
       tape-fits = laid-fits (r .tape) (tapeWords (s .tape)) (st .tape) (plain .tape-is) tape-long;
     } in
-    let good : Good (tableIn u n) s = subst (λ T. Good T s) (sym (ignored u w n same)) (after-good w n A p s (plain .after-is)) in
+    let good : Good (tableIn u n) s = subst (λ T. Good T s) (sym (ignored u w n same)) (after-good w n A s₀ good₀ p s (plain .after-is)) in
     subst (λ z. topOf which (givenTo u n z) ≡ topBy none (shows which s)) laid
     (top-of-state which (givenTo u n (laidDown r (moment s p))) s
     (laid-enters r (moment s p) fits u n (accepted-ignores w u n (sym same) A) good short-log short-tape))

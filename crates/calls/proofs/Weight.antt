@@ -1,12 +1,11 @@
 -- What a state weighs: its bullets and its logged positions are the words of both lists, a caller can weigh it on session and slices, and no weight and no peak is over `heaviest`.
 use mathlib.Core.Path.{_≡_, refl, sym, ap, ap₂, _∙_}
-use mathlib.Core.Bool.{false}
+use mathlib.Core.Option.{none}
 use mathlib.Core.List.{List, [], _∷_, _++_, reverse, reverse-append}
 use Prim.Native.Nat.{ℕ, zero, suc, _+_, _-_, _*_, _≤_, zero-le}
 use native.Mathlib.Nat.{le-trans, zero-add, suc-add, add-comm, mul-le-mul-right}
 use native.Mathlib.Omega.{arith}
 use lib.ListN.{length, take, length-append}
-use lib.Dec.{leb}
 use Rattle.term.specs.Table.{Table, tableIn}
 use Rattle.term.specs.Facts.{Facts}
 use Rattle.term.specs.Accepted.{mostNodes}
@@ -16,21 +15,24 @@ use Rattle.machine.specs.Machine.{State}
 use Rattle.machine.specs.Good.{EntryIn, LogIn, TapeIn}
 use Rattle.machine.proofs.Nodes.{not-zero}
 use Rattle.machine.proofs.Load.{slice-front}
-use Rattle.calls.specs.Session.{Outcome, Given}
+use Rattle.calls.specs.Session.{Given}
 use Rattle.calls.specs.Stops.{Way, forward, back, Moment, moment, Room, room, logSize, tapeSize}
 use Rattle.calls.specs.Digits.{digits, HasDigits}
 use Rattle.calls.specs.Weight.{bullets, entryPositions, logPositions, tapePositions, loggedPositions, weight, zeroWords, bulletsGiven, weightGiven, heaviest}
 use Rattle.calls.specs.Winding.{Run, wind}
-use Rattle.calls.specs.Calls.{longest, Enters, wound, windOf, goToOf}
-use Rattle.calls.specs.Visits.{Spot, offTerm, backToOf, forwardToOf, foundBy}
-use Rattle.calls.specs.Demand.{Move, outcomeOf}
+use Rattle.calls.specs.Calls.{longest, Enters}
+use Rattle.calls.specs.Walks.{Walked, PeakOver}
+use Rattle.calls.specs.Visits.{foundBy}
+use Rattle.calls.specs.Moves.{Move, outcomeOf, ownNumber}
 use Rattle.calls.proofs.Stops.{Fits, fits-next}
 use Rattle.calls.proofs.Winds.{each-run}
 use Rattle.calls.proofs.Digits.{digits-are, digits-at-most, digits-once}
-use Rattle.calls.proofs.Peaks.{Walked, walked-nowhere, walked}
-use Rattle.calls.proofs.Outcomes.{each-outcome}
-use Rattle.calls.proofs.Visits.{wind-none, sought, each-sought, sought-back}
-use Rattle.calls.proofs.Answers.{either-way, winds, seeks-back, seeks-forward, enters-fits}
+use Rattle.calls.proofs.Peaks.{walked-nowhere, walked}
+use Rattle.calls.proofs.Visits.{wind-none}
+use Rattle.calls.proofs.Entering.{enters-fits}
+use Rattle.calls.proofs.MoveLaws.{runOf}
+use Rattle.calls.proofs.EachMove.{laws}
+use Rattle.calls.proofs.Answers.{moved, each-outcome}
 
 -- ---- the words of both lists
 
@@ -158,23 +160,8 @@ own-light g s h = rw (wind-none forward (tableIn (g .table) (g .n)) (room (g .lo
 -- Every peak fits its word, whatever the call is given.
 pub peak-light : (m : Move) (g : Given) → outcomeOf m g .peak ≤ heaviest
 peak-light m g =
-    each-outcome g (λ o. o .peak ≤ heaviest) (λ k. zero-le)
-    (λ s h. record { walk = λ way c. from-here way g s h c; found = λ way c. from-here way g s h c; none = own-light g s h }) m
-
--- The outcome is that of a run this way from the state given, and its peak the greatest weight over the states stood in, first and last included.
-abbrev pub PeakOver : Given → State → Way → Outcome → Type 0
-PeakOver g s way o =
-    (run : Run) × (o ≡ wound (room (g .log) (g .tape)) run) × Walked way (tableIn (g .table) (g .n)) (moment s (g .session .position)) run
-
--- So it is in each call that is not refused, whatever its stop: forward, back,
-pub wind-greatest : (g : Given) (s : State) → Enters g s → (way : Way) (c : ℕ) → PeakOver g s way (windOf way g c)
-wind-greatest g s h way c = (_, winds g s h way c, walked way (tableIn (g .table) (g .n)) (room (g .log) (g .tape)) c (moment s (g .session .position)))
-
--- and go-to, one way or the other.
-pub go-to-greatest : (g : Given) (s : State) → Enters g s → (q : ℕ) → (way : Way) × PeakOver g s way (goToOf g q)
-unfolding goToOf
-go-to-greatest g s h q =
-    either-way (λ o. (way : Way) × PeakOver g s way o) (leb (g .session .position) q) _ _ (λ i. (forward, wind-greatest g s h forward _)) (λ i. (back, wind-greatest g s h back _))
+    each-outcome m g (λ o. o .peak ≤ heaviest) (λ k. zero-le)
+    (λ s h. record { walk = λ way c. from-here way g s h c; found = λ way c. from-here way g s h c; none = own-light g s h })
 
 -- The same run, as found.
 found-walked : (way : Way) (T : Table) (m : Moment) (run : Run) → Walked way T m run → Walked way T m (foundBy run)
@@ -190,27 +177,15 @@ found-walked way T m run w = record {
   };
 }
 
--- A call to a spot: found, over the states from the first to the one found; else as forward by its count, or the present state's own.
-module _ (g : Given) (s : State) (h : Enters g s) (v : Spot) (on : offTerm (g .n) (v .node) ≡ false) where
-  abbrev T₀ : Table
-  T₀ = tableIn (g .table) (g .n)
-
-  abbrev r₀ : Room
-  r₀ = room (g .log) (g .tape)
-
-  abbrev first : Moment
-  first = moment s (g .session .position)
-
-  pub back-to-greatest : PeakOver g s back (backToOf g v)
-  back-to-greatest = (
-    _,
-    seeks-back g s h v on,
-    each-sought (λ x. Walked back T₀ first x) (λ k f. found-walked back T₀ first _ (walked back T₀ r₀ k first)) (walked-nowhere back T₀ first _) (sought-back T₀ r₀ v first),
-  )
-
-  pub forward-to-greatest : (c : ℕ) → PeakOver g s forward (forwardToOf g v c)
-  forward-to-greatest c = (
-    _,
-    seeks-forward g s h v on c,
-    each-sought (λ x. Walked forward T₀ first x) (λ k f. found-walked forward T₀ first _ (walked forward T₀ r₀ k first)) (walked forward T₀ r₀ c first) (sought forward T₀ r₀ v c first),
-  )
+-- So it is in each call that is not refused, one way or the other, whatever its stop; none has the present state's own.
+pub peak-greatest : (m : Move) (g : Given) (s : State) → Enters g s → ownNumber m (g .n) (g .session .position) ≡ none → (way : Way) × PeakOver g s way (outcomeOf m g)
+peak-greatest m g s h o =
+    let T : Table = tableIn (g .table) (g .n) in
+    let r : Room = room (g .log) (g .tape) in
+    let x : Moment = moment s (g .session .position) in
+    let w = laws m .walks T r (λ run. (way : Way) × Walked way T x run) x (record {
+      walk = λ way c. (way, walked way T r c x);
+      found = λ way c. (way, found-walked way T x _ (walked way T r c x));
+      none = (back, walked-nowhere back T x _);
+    }) in
+    (w .0, (runOf m T r x, moved m g s h o, w .1))

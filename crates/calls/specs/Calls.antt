@@ -1,4 +1,4 @@
--- The four calls of document 01 on any words at all: open, forward, back and go-to.
+-- The numbers 7 to 9 in their order, what a refusal answers, and the four calls of document 01 on any words at all: open, forward, back and go-to.
 use mathlib.Core.Bool.{Bool, _||_, not}
 use mathlib.Core.Option.{Option, none, some}
 use mathlib.Core.List.{List, [], _∷_, _++_}
@@ -46,7 +46,7 @@ callTests g = lentTests (g .table) (g .n) (g .log) (g .tape) ++ ((isNone (stateG
 unfoldable pub callNumber : Given → Option ℕ
 callNumber g = first (callTests g)
 
--- None of 7, 8 and 9 applies, and this is the state that the call is given: what `callNumber` tests, in words (`entered` and `enters-unrefused`, proofs/Answers.antt).
+-- None of 7, 8 and 9 applies, and this is the state that the call is given: what `callNumber` tests, in words (`entered` and `enters-unrefused`, proofs/Entering.antt).
 pub record Enters (g : Given) (s : State) : Type 0 where
   pub accepted-table : Accepted (g .table) (g .n)
   pub short-log : length (g .log) ≤ longest
@@ -69,7 +69,7 @@ logSlice r m = slice (r .log) (logWords (m .state .log))
 abbrev pub tapeSlice : Room → Moment → List ℕ
 tapeSlice r m = slice (r .tape) (tapeWords (m .state .tape))
 
--- "A refused open answers node 0, down, and 0 for every other number", and no lent word differs.
+-- "a refused open answers node 0, down, and 0 for every other number", and no lent word differs.
 abbrev pub noSession : Session
 noSession = record { node = 0; dir = down; position = 0; logLength = 0; tapeLength = 0 }
 

@@ -7,7 +7,7 @@ digitsIn zero n = 0
 digitsIn (suc k) zero = 0
 digitsIn (suc k) (suc n) = suc (digitsIn k (suc n / 2))
 
--- No number has more digits than it counts, so n are enough.
+-- n has at most n digits, so that to look for n is enough.
 unfoldable pub digits : ℕ → ℕ
 digits n = digitsIn n n
 

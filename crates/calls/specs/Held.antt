@@ -27,7 +27,7 @@ pub record Holds (T : Table) (se : Session) (ls ts : List ℕ) (s : State) : Typ
   pub log-lies : ls ≡ slice (length ls) (logWords (s .log))
   pub tape-lies : ts ≡ slice (length ts) (tapeWords (s .tape))
 
--- The same as a test: the state that they hold, if they hold one. "No such node; a length over its slice; a word not 0 above a top":
+-- The same as a test: the state that they hold, if they hold one. "no such node; a length over its slice; .. a word not 0 above a top":
 unfoldable pub wellFormed : Table → Session → List ℕ → List ℕ → Bool
 wellFormed T se ls ts =
     leb 1 (se .node)

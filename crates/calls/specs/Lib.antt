@@ -5,6 +5,11 @@ pub mod Weight
 pub mod Winding
 pub mod Held
 pub mod Calls
+pub mod Walks
 pub mod Top
 pub mod Visits
+pub mod Allowed
+pub mod Visited
+pub mod Moves
 pub mod Demand
+pub mod Trips

@@ -28,7 +28,7 @@ pub record Shown : Type 0 where
   pub size : ℕ
   pub refusal : ℕ
 
--- An entry or a bullet that lies above so many words. "In slice order": the last word read comes first, so its words from the top come the other way round.
+-- An entry or a bullet that lies above so many words. "in slice order": the last word read comes first, so its words from the top come the other way round.
 abbrev pub shown : Item → ℕ → Shown
 shown x below = record { part = reverse (itemWords x); offset = below; size = length (itemWords x); refusal = 0 }
 
@@ -71,7 +71,7 @@ topOf which g = topBy (topNumber which g) (shownGiven which g)
 abbrev pub seen : Shown → List ℕ × ℕ
 seen a = (a .part, a .refusal)
 
--- The same in words (proofs/Top.antt says that they agree). The slice in which the chosen list lies, and that list's length:
+-- The same in words (`points`, `shown-exactly` and `ten-exactly`, proofs/Top.antt, say that they agree). The slice in which the chosen list lies, and that list's length:
 abbrev pub sliceGiven : Which → Given → List ℕ
 sliceGiven which g = asTold which (g .log) (g .tape)
 

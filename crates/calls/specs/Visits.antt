@@ -2,10 +2,10 @@
 use mathlib.Core.Path.{_≡_}
 use mathlib.Core.Bool.{Bool, true, false, _&&_, _||_}
 use mathlib.Core.Option.{Option}
-use mathlib.Core.List.{[], _∷_, _++_}
+use mathlib.Core.List.{List, [], _∷_, _++_}
 use Prim.Native.Nat.{ℕ, zero, suc, _≤_, _<_}
 use lib.Dec.{eqb, ltb}
-use Rattle.term.specs.Choice.{_⇒_, first, choose, ifSome}
+use Rattle.term.specs.Choice.{Test, _⇒_, first, choose, ifSome}
 use Rattle.term.specs.Table.{Table, tableIn}
 use Rattle.machine.specs.Machine.{Dir, down, up, State}
 use Rattle.calls.specs.Session.{Stop, spent, jam, far, start, logFull, tapeFull, found, answer, refused, Outcome, Given}
@@ -70,8 +70,11 @@ seekBack T r v m = foundOrNone T m (seek back T r v (m .position) m)
 abbrev pub offTerm : ℕ → ℕ → Bool
 offTerm n i = eqb i 0 || ltb n i
 
+abbrev pub spotTests : ℕ → ℕ → List (Test ℕ)
+spotTests n i = (offTerm n i ⇒ 12) ∷ []
+
 unfoldable pub visitNumber : ℕ → Given → Option ℕ
-visitNumber i g = first (callTests g ++ ((offTerm (g .n) i ⇒ 12) ∷ []))
+visitNumber i g = first (callTests g ++ spotTests (g .n) i)
 
 unfoldable pub backToOf : Given → Spot → Outcome
 backToOf g v = outcomeBy (visitNumber (v .node) g) (stateGiven g) g (λ m. seekBack (tableIn (g .table) (g .n)) (room (g .log) (g .tape)) v m)

@@ -31,7 +31,7 @@ tapePositions (held e ∷ t) = entryPositions e + tapePositions t
 abbrev pub loggedPositions : State → ℕ
 loggedPositions s = logPositions (s .log) + tapePositions (s .tape)
 
--- "A state weighs its bullets plus X times its logged positions, nested ones included, where X is the number of binary digits of n."
+-- "a state weighs its bullets plus X times its logged positions, nested ones included, where X is the number of binary digits of n."
 unfoldable pub weight : Table → State → ℕ
 weight T s = bullets (s .tape) + digits (T .nodes) * loggedPositions s
 
@@ -44,9 +44,13 @@ zeroWords (suc v ∷ ws) = zeroWords ws
 abbrev pub bulletsGiven : Given → ℕ
 bulletsGiven g = zeroWords (take (g .session .tapeLength) (g .tape))
 
-abbrev pub weightGiven : ℕ → Given → ℕ
-weightGiven X g = bulletsGiven g + X * (g .session .logLength + g .session .tapeLength - bulletsGiven g)
+-- of so many words, so many of them bullets
+abbrev pub weightBy : ℕ → ℕ → ℕ → ℕ
+weightBy X words b = b + X * (words - b)
 
--- 12 digits, which 3,000 has, for each word of two slices of 16,384: no state that a call stands in weighs more (`light`, `peak-light`).
+abbrev pub weightGiven : ℕ → Given → ℕ
+weightGiven X g = weightBy X (g .session .logLength + g .session .tapeLength) (bulletsGiven g)
+
+-- 12 digits, which 3,000 has, for each word of two slices of 16,384: no state that a call stands in weighs more (`light`, `peak-light`, proofs/Weight.antt).
 abbrev pub heaviest : ℕ
 heaviest = 393216

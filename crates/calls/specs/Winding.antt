@@ -27,15 +27,15 @@ ended T m x = record { last = m; steps = 0; stop = x; peak = weight T (m .state)
 
 -- a run with one step before it, from m
 abbrev pub longer : Way → Table → Moment → Run → Run
-longer way T m r = record {
-  last = r .last;
-  steps = suc (r .steps);
-  stop = r .stop;
-  peak = max (weight T (m .state)) (r .peak);
-  carried = carriedBy way T (m .state) + r .carried;
+longer way T m run = record {
+  last = run .last;
+  steps = suc (run .steps);
+  stop = run .stop;
+  peak = max (weight T (m .state)) (run .peak);
+  carried = carriedBy way T (m .state) + run .carried;
 }
 
--- Steps until the first stop: the tests are put before each step, with the count one lower each time. (A count of 0 is spent, the first test of both lists; no step is a jam, one of them.)
+-- Steps until the first stop: the tests are put before each step, with the count one lower each time. (A count of 0 is spent, the first test either way; where there is no step the tests have said jam.)
 unfoldable pub wind : Way → Table → Room → ℕ → Moment → Run
 wind way T r zero m = ended T m spent
 wind way T r (suc count) m =

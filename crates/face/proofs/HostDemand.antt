@@ -1,17 +1,18 @@
 -- The third demand for a host, from that of the calls: what a call told stands for itself again.
 use mathlib.Core.Path.{_≡_, refl, sym, ap, _∙_, subst}
-use mathlib.Core.Bool.{Bool, true, false}
+use mathlib.Core.Option.{Option, none, some}
 use mathlib.Core.List.{List, [], _∷_}
 use Prim.Native.Nat.{ℕ}
 use Rattle.term.specs.Table.{Table}
 use Rattle.machine.specs.Machine.{State}
 use Rattle.calls.specs.Session.{Outcome}
 use Rattle.calls.specs.Stops.{Room}
-use Rattle.calls.specs.Demand.{Move, Call, outcomeOf, AllPermitted, Standing, leftBy, givenTo, misses, positionBy, AsPlain, AsOwn, Demanded}
+use Rattle.calls.specs.Moves.{Move, outcomeOf, ownNumber}
+use Rattle.calls.specs.Demand.{Call, AllPermitted, Standing, leftBy, givenTo, positionBy, AsPlain, AsOwn, Demanded}
 use Rattle.calls.specs.Demand
 use Rattle.calls.proofs.Third.{third-demand}
 use Rattle.face.specs.Told.{outcomeTold}
-use Rattle.face.specs.HostDemand.{Kept, keptOf, HostCall, own, other, answerTo, AllPermittedCalls, keptBy, ToldAsOwn, HostDemanded, HostDemand}
+use Rattle.face.specs.HostDemand.{keptOf, HostCall, own, other, answerTo, AllPermittedCalls, keptBy, ToldAsOwn, HostDemanded, HostDemand}
 use Rattle.face.proofs.Codes.{told-again}
 use Rattle.face.proofs.Refusals.{refused-told, refusal-gives-back}
 
@@ -35,10 +36,10 @@ module _ (T : Table) (s₀ : State) (r : Room) (n : ℕ) where
   stands [] p st d = d
   stands (c ∷ cs) p st d = d .0
 
-  told-own : (m : Move) (p : ℕ) (u : List ℕ) (st : Standing) (b : Bool) → AsOwn T s₀ r b m p (givenTo u n st) (outcomeOf m (givenTo u n st))
-      → ToldAsOwn T s₀ r b m p (keptOf st) (answerTo m u n (keptOf st))
-  told-own m p u st false d = (outcomeOf m (givenTo u n st), d, answered m u n st)
-  told-own m p u st true d = answered m u n st ∙ refused-told 12 (d .0) (d .1)
+  told-own : (m : Move) (p : ℕ) (u : List ℕ) (st : Standing) (o : Option ℕ) → AsOwn T s₀ r o m p (givenTo u n st) (outcomeOf m (givenTo u n st))
+      → ToldAsOwn T s₀ r o m p (keptOf st) (answerTo m u n (keptOf st))
+  told-own m p u st none d = (outcomeOf m (givenTo u n st), d, answered m u n st)
+  told-own m p u st (some k) d = answered m u n st ∙ refused-told k (d .0) (d .1)
 
   told-demanded : (w : List ℕ) (cs : List HostCall) (p : ℕ) (st : Standing) → AllPermittedCalls w n cs → Demanded T s₀ r n (owns cs) p st
       → HostDemanded T s₀ r n cs p (keptOf st)
@@ -48,7 +49,7 @@ module _ (T : Table) (s₀ : State) (r : Room) (n : ℕ) where
       let o : Outcome = outcomeOf m (givenTo u n st) in
       let goes-on : keptOf (leftBy o) ≡ keptBy (answerTo m u n (keptOf st)) = sym (ap keptBy (answered m u n st)) in (
         (st, d .0, refl),
-        told-own m p u st (misses (T .nodes) m) (d .1),
+        told-own m p u st (ownNumber m (T .nodes) p) (d .1),
         subst (λ h. HostDemanded T s₀ r n cs (positionBy T s₀ r m p) h) goes-on (told-demanded w cs (positionBy T s₀ r m p) (leftBy o) (a .1) (d .2)),
       )
   told-demanded w (other m u k h ∷ cs) p st a d = (

@@ -10,9 +10,10 @@ use Rattle.term.proofs.Accepted.{accepts-all, accepts-only}
 use Rattle.calls.specs.Session.{Session, Stop, refused, Outcome, Given}
 use Rattle.calls.specs.Calls.{longest, lentNumber, callNumber, refusedOutcome}
 use Rattle.calls.specs.Visits.{visitNumber, backToOf, forwardToOf}
-use Rattle.calls.specs.Demand.{Move, outcomeOf, RefusedCall}
+use Rattle.calls.specs.Moves.{Move, back-to, forward-to, outcomeOf}
+use Rattle.calls.specs.Demand.{RefusedCall}
 use Rattle.calls.proofs.Unrefused.{lent-seven, lent-log-eight, lent-tape-eight, lent-unrefused, visit-twelve}
-use Rattle.calls.proofs.Answers.{back-to-refused, forward-to-refused, refused-unchanged}
+use Rattle.calls.proofs.Answers.{own-refused, refused-unchanged}
 use Rattle.face.specs.declared.HostSession.{HostSession}
 use Rattle.face.specs.Numbers.{sessionNumbers, sessionIn, stopCode, stopValue, spotIn}
 use Rattle.face.specs.Told.{outcomeTold, refusedTold, noSessionNumber, calledOn, called}
@@ -51,10 +52,10 @@ module _ (g : Given) (i k : ℕ) (h : 1 < k) (e : callNumber g ≡ none) where
   no-spot = visit-twelve (spotIn i k .node) g e (rw (no-direction k h))
 
   pub back-to-no-spot : backToOf g (spotIn i k) ≡ refusedOutcome 12 g
-  back-to-no-spot = back-to-refused g 12 (spotIn i k) no-spot
+  back-to-no-spot = own-refused (back-to (spotIn i k)) g 12 e (rw (no-direction k h))
 
   pub forward-to-no-spot : (c : ℕ) → forwardToOf g (spotIn i k) c ≡ refusedOutcome 12 g
-  forward-to-no-spot c = forward-to-refused g 12 (spotIn i k) c no-spot
+  forward-to-no-spot c = own-refused (forward-to (spotIn i k) c) g 12 e (rw (no-direction k h))
 
 -- Code 7 is a refusal's alone.
 code-7 : (x : Stop) → stopCode x ≡ 7 → x ≡ refused (stopValue x)
@@ -85,7 +86,7 @@ module _ (m : Move) (w : List ℕ) (n : ℕ) (s : HostSession) (ls ts : List ℕ
       let g : Given = record { table = w; n = n; session = se; log = ls; tape = ts } in
       let o : Outcome = outcomeOf m g in
       let is-refused : o .stop ≡ refused (stopValue (o .stop)) = code-7 (o .stop) e in
-      refused-told (stopValue (o .stop)) is-refused (refused-unchanged g (stopValue (o .stop)) m is-refused) ∙ ap (λ x. refusedTold (stopValue (o .stop)) x ls ts) (same se refl)
+      refused-told (stopValue (o .stop)) is-refused (refused-unchanged m g (stopValue (o .stop)) is-refused) ∙ ap (λ x. refusedTold (stopValue (o .stop)) x ls ts) (same se refl)
 
   pub refusal-gives-back : called (λ g. outcomeOf m g) w n s ls ts .0 .stop ≡ 7
       → called (λ g. outcomeOf m g) w n s ls ts ≡ refusedTold (called (λ g. outcomeOf m g) w n s ls ts .0 .value) s ls ts

@@ -8,7 +8,7 @@ use Rattle.machine.specs.Machine.{State}
 use Rattle.calls.specs.Session.{Session, Given}
 use Rattle.calls.specs.Calls.{callNumber, Enters}
 use Rattle.calls.specs.Top.{Which, notShown, topOf, sliceGiven}
-use Rattle.calls.proofs.Answers.{enters-unrefused}
+use Rattle.calls.proofs.Entering.{enters-unrefused}
 use Rattle.calls.proofs.Top.{refused-nowhere, cut}
 use Rattle.face.specs.declared.HostSession.{HostSession}
 use Rattle.face.specs.Numbers.{sessionIn, whichIn}

@@ -1,7 +1,7 @@
 -- The third demand of document 01 for a host: after every list of its calls, what it keeps is the plain machine's after p steps, told in numbers.
 -- The theorem is `host-demand` (proofs/HostDemand.antt).
 use mathlib.Core.Path.{_≡_}
-use mathlib.Core.Bool.{Bool, true, false}
+use mathlib.Core.Option.{Option, none, some}
 use mathlib.Core.List.{List, [], _∷_}
 use Prim.Native.Nat.{ℕ, _≤_}
 use lib.ListN.{length}
@@ -12,11 +12,12 @@ use Rattle.calls.specs.Session.{Outcome}
 use Rattle.calls.specs.Stops.{Room, room}
 use Rattle.calls.specs.Calls.{longest, openOf}
 use Rattle.calls.specs.Demand
-use Rattle.calls.specs.Demand.{Move, outcomeOf, Permitted, Standing, misses, positionBy, AsPlain, AsWound}
+use Rattle.calls.specs.Moves.{Move, outcomeOf, ownNumber, course}
+use Rattle.calls.specs.Demand.{Permitted, Standing, positionBy, AsPlain, OwnCall}
 use Rattle.face.specs.declared.HostSession.{HostSession}
 use Rattle.face.specs.declared.HostOpening.{HostOpening}
 use Rattle.face.specs.declared.HostOutcome.{HostOutcome}
-use Rattle.face.specs.Numbers.{sessionNumbers}
+use Rattle.face.specs.Numbers.{sessionNumbers, refusedCode}
 use Rattle.face.specs.Told.{openTold, outcomeTold, refusedTold, called}
 
 -- what a host keeps between two calls
@@ -37,10 +38,10 @@ pub data HostCall : Type 0 where
 abbrev pub answerTo : Move → List ℕ → ℕ → Kept → HostOutcome × List ℕ × List ℕ
 answerTo m w n h = called (λ g. outcomeOf m g) w n (h .session) (h .log) (h .tape)
 
--- its own as the third demand has it; another's stands there only as a refused one (7 is the code of a refusal)
+-- its own as the third demand has it; another's stands there only as a refused one
 abbrev pub PermittedCall : List ℕ → ℕ → HostCall → Type 0
 PermittedCall w n (own m u) = Permitted w n (Demand.own m u)
-PermittedCall w n (other m u k h) = answerTo m u k h .0 .stop ≡ 7
+PermittedCall w n (other m u k h) = answerTo m u k h .0 .stop ≡ refusedCode
 
 abbrev pub AllPermittedCalls : List ℕ → ℕ → List HostCall → Type 0
 AllPermittedCalls w n [] = Unit
@@ -66,13 +67,13 @@ module _ (T : Table) (s₀ : State) (r : Room) where
   abbrev pub KeptAsPlain : ℕ → Kept → Type 0
   KeptAsPlain p h = (st : Standing) × AsPlain T s₀ r p st × (h ≡ keptOf st)
 
-  -- A call of the list's own tells a 12, or an outcome as the third demand has it; a refused one gives back what it was handed.
-  abbrev pub ToldAsOwn : Bool → Move → ℕ → Kept → HostOutcome × List ℕ × List ℕ → Type 0
-  ToldAsOwn true m p h a = a ≡ refusedTold 12 (h .session) (h .log) (h .tape)
-  ToldAsOwn false m p h a = (o : Outcome) × AsWound T s₀ r m p o × (a ≡ outcomeTold o)
+  -- A call of the list's own tells the number that refuses it, or an outcome as the third demand has it; a refused one gives back what it was handed.
+  abbrev pub ToldAsOwn : Option ℕ → Move → ℕ → Kept → HostOutcome × List ℕ × List ℕ → Type 0
+  ToldAsOwn (some k) m p h a = a ≡ refusedTold k (h .session) (h .log) (h .tape)
+  ToldAsOwn none m p h a = (o : Outcome) × OwnCall T s₀ r p (course T s₀ r m p) o × (a ≡ outcomeTold o)
 
   abbrev pub ToldAsDemanded : ℕ → ℕ → Kept → HostCall → Type 0
-  ToldAsDemanded n p h (own m u) = ToldAsOwn (misses (T .nodes) m) m p h (answerTo m u n h)
+  ToldAsDemanded n p h (own m u) = ToldAsOwn (ownNumber m (T .nodes) p) m p h (answerTo m u n h)
   ToldAsDemanded n p h (other m u k g) = (x : ℕ) × (answerTo m u k g ≡ refusedTold x (g .session) (g .log) (g .tape))
 
   unfoldable pub HostDemanded : ℕ → List HostCall → ℕ → Kept → Type 0

@@ -35,6 +35,10 @@ sessionIn s =
     dirIn (s .direction) >>= λ d.
     some (record { node = s .node; dir = d; position = s .position; logLength = s .«log_len»; tapeLength = s .«tape_len» })
 
+-- the code of a refusal
+abbrev pub refusedCode : ℕ
+refusedCode = 7
+
 -- A stop is a code
 abbrev pub stopCode : Stop → ℕ
 stopCode spent = 0
@@ -44,7 +48,7 @@ stopCode far = 3
 stopCode start = 4
 stopCode logFull = 5
 stopCode tapeFull = 6
-stopCode (refused k) = 7
+stopCode (refused k) = refusedCode
 stopCode found = 8
 stopCode Stop.none = 9
 
@@ -61,7 +65,7 @@ stopValue (refused k) = k
 stopValue found = 0
 stopValue Stop.none = 0
 
--- A list is 0 the log, 1 the tape,
+-- A list is 0 the log, 1 the tape (`list-told`, proofs/Codes.antt: each is named by its number),
 abbrev pub whichNumber : Which → ℕ
 whichNumber log = 0
 whichNumber tape = 1

@@ -14,7 +14,7 @@ use Rattle.face.specs.declared.HostSession.{HostSession}
 use Rattle.face.specs.declared.HostOpening.{HostOpening}
 use Rattle.face.specs.declared.HostOutcome.{HostOutcome}
 use Rattle.face.specs.declared.HostPart.{HostPart}
-use Rattle.face.specs.Numbers.{sessionNumbers, sessionIn, stopCode, stopValue, whichIn}
+use Rattle.face.specs.Numbers.{sessionNumbers, sessionIn, refusedCode, stopCode, stopValue, whichIn}
 
 abbrev pub readTold : Read → HostReading × List ℕ
 readTold r = (record { n = r .n; refusal = r .refusal }, r .table)
@@ -39,7 +39,7 @@ outcomeTold o = toldWith (sessionNumbers (o .session)) o
 
 -- A refusal gives the numbers back as they were given, and nothing is done.
 abbrev pub refusedTold : ℕ → HostSession → List ℕ → List ℕ → HostOutcome × List ℕ × List ℕ
-refusedTold k s ls ts = (record { session = s; steps = 0; stop = 7; value = k; value2 = 0; peak = 0; carried = 0 }, ls, ts)
+refusedTold k s ls ts = (record { session = s; steps = 0; stop = refusedCode; value = k; value2 = 0; peak = 0; carried = 0 }, ls, ts)
 
 -- Numbers that stand for no session are refused with 9, after 7 and 8.
 abbrev pub noSessionNumber : List ℕ → ℕ → List ℕ → List ℕ → ℕ

@@ -1,4 +1,4 @@
--- Every state that the plain machine comes to on an accepted table is good: "the length of the log in entries equals the node's level".
+-- Every state that the plain machine comes to from a good one on an accepted table is good, and so from the start: "the length of the log in entries equals the node's level".
 use mathlib.Core.Path.{_≡_, refl, sym, subst}
 use mathlib.Core.Option.{Option, none, some}
 use mathlib.Core.List.{List}
@@ -8,7 +8,7 @@ use Rattle.term.specs.Table.{Table, tableIn}
 use Rattle.term.specs.Facts.{Facts}
 use Rattle.term.specs.Accepted.{Accepted}
 use Rattle.term.proofs.Facts.{accepted-facts}
-use Rattle.machine.specs.Machine.{State, startState, step, afterFrom, after}
+use Rattle.machine.specs.Machine.{State, startState, step, afterFrom}
 use Rattle.machine.specs.Good.{Good}
 use Rattle.machine.proofs.Led.{Led}
 use Rattle.machine.proofs.Reverse.{keeps-good}
@@ -31,5 +31,6 @@ module _ (w : List ℕ) (n : ℕ) (A : Accepted w n) where
   pub start-good : Good (tableIn w n) startState
   start-good = let root = accepted-facts w n A .root in record { node-there = root .there; level-many = sym (root .level-is); log-entries = tt; tape-items = tt }
 
-  pub after-good : (p : ℕ) (s : State) → after (tableIn w n) p ≡ some s → Good (tableIn w n) s
-  after-good p s e = subst (Led (Good (tableIn w n))) e (good-from (tableIn w n) (accepted-facts w n A) startState start-good p)
+  -- from any good state at position 0
+  pub after-good : (s₀ : State) → Good (tableIn w n) s₀ → (p : ℕ) (s : State) → afterFrom (tableIn w n) s₀ p ≡ some s → Good (tableIn w n) s
+  after-good s₀ g p s e = subst (Led (Good (tableIn w n))) e (good-from (tableIn w n) (accepted-facts w n A) s₀ g p)

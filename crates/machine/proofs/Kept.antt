@@ -12,7 +12,7 @@ use Rattle.term.specs.Accepted.{Accepted}
 use Rattle.term.proofs.Choice.{chained}
 use Rattle.term.proofs.Facts.{accepted-facts}
 use Rattle.machine.specs.Entries.{Entry, entry, Log, ε, _▸_, howMany, topmost, rest, _onto_, bullet, held, Tape}
-use Rattle.machine.specs.Machine.{Dir, down, up, State, state, startState, boundAt, goDown, goUp, stepBy, step, turned, turn, afterFrom, after}
+use Rattle.machine.specs.Machine.{Dir, down, up, State, state, startState, boundAt, goDown, goUp, stepBy, step, turned, turn, afterFrom}
 use Rattle.machine.specs.Good.{TapeIn, Good}
 use Rattle.machine.proofs.Logs.{topmost-rest}
 use Rattle.machine.proofs.Tests.{bound-at}
@@ -173,7 +173,7 @@ module _ (T : Table) (F : Facts T) where
   keeps : (s u : State) → Good T s → Kept T s → step T s ≡ some u → Kept T u
   keeps s u g k e = subst (Led (Kept T)) e (kept-by (s .node) (s .dir) (s .log) (s .tape) g k)
 
-  start-kept : Kept T startState
+  pub start-kept : Kept T startState
   start-kept = record { log-kept = at-root; tape-kept = λ v es S. none-there }
     where
       none-there : {v : ℕ} {es : Log} {S : Tape} {A : Type 0} → On v es [] S → A
@@ -186,8 +186,8 @@ module _ (T : Table) (F : Facts T) where
       let o : Origin T v es (state i up L []) = k v es [] on-top in
       subst (λ j. boundAt T j v ≡ true) (ap (λ s. s .node) (left-here i L v es e o)) (bound-at T v (o .is-variable))
 
--- So it is after p steps on an accepted table. Document 003: "An invariant guarantees that the logged position on the tape always contains a position relative to the
--- active abstraction."
+-- So it is after p steps on an accepted table, from any good state at position 0 that has kept where its entries come from. Document 003: "An invariant guarantees that the logged position on the
+-- tape always contains a position relative to the active abstraction."
 module _ (w : List ℕ) (n : ℕ) (A : Accepted w n) where
   abbrev T : Table
   T = tableIn w n
@@ -195,12 +195,13 @@ module _ (w : List ℕ) (n : ℕ) (A : Accepted w n) where
   F : Facts T
   F = accepted-facts w n A
 
-  after-kept : (p : ℕ) (s : State) → after T p ≡ some s → Kept T s
-  unfolding afterFrom
-  after-kept zero s e = subst (Kept T) (Option·some-injective startState s e) (start-kept T F)
-  after-kept (suc p) s e =
-      let c = chained (after T p) (λ u. step T u) s e in
-      keeps T F (c .0) s (after-good w n A p (c .0) (c .1)) (after-kept p (c .0) (c .1)) (c .2)
+  module _ (s₀ : State) (good : Good T s₀) (kept : Kept T s₀) where
+    after-kept : (p : ℕ) (s : State) → afterFrom T s₀ p ≡ some s → Kept T s
+    unfolding afterFrom
+    after-kept zero s e = subst (Kept T) (Option·some-injective s₀ s e) kept
+    after-kept (suc p) s e =
+        let c = chained (afterFrom T s₀ p) (λ u. step T u) s e in
+        keeps T F (c .0) s (after-good w n A s₀ good p (c .0) (c .1)) (after-kept p (c .0) (c .1)) (c .2)
 
-  pub after-bound : (p : ℕ) (s : State) → after T p ≡ some s → BoundHere T s
-  after-bound p s e d k = top-kept T F (s .node) (s .log) (s .tape) (after-kept p s e .tape-kept) k
+    pub after-bound : (p : ℕ) (s : State) → afterFrom T s₀ p ≡ some s → BoundHere T s
+    after-bound p s e d k = top-kept T F (s .node) (s .log) (s .tape) (after-kept p s e .tape-kept) k

@@ -15,7 +15,9 @@ use Rattle.machine.specs.Rule.{ruleAt}
 use Rattle.machine.specs.Good.{Good}
 use Rattle.machine.proofs.Reverse as Reverse
 use Rattle.machine.proofs.Bound.{step-bound, back-bound}
-use Rattle.machine.proofs.Kept.{after-bound}
+use Rattle.machine.proofs.After.{start-good}
+use Rattle.machine.proofs.Origins.{Kept}
+use Rattle.machine.proofs.Kept.{start-kept, after-bound}
 use Rattle.published.specs.Figure.{level, State, initial, Transition, Final, Run, more}
 use Rattle.published.specs.Represents.{nothing-on, Represents, rule}
 use Rattle.published.proofs.Positions.{IsTable, accepted-table}
@@ -66,38 +68,51 @@ module _ (w : List ℕ) (n : ℕ) (A : Accepted w n) where
       let p : Represents t s P = subst (λ z. Represents t z P) (Reverse.turn-twice s) (represents-turned t (Machine.turn s) (q .0) (q .3)) in
       (P, x, leads T t lies s P Q p (back-bound T (lies .facts) s u e) x .by-rule, p)
 
-  -- So p steps are a run of p transitions, from any state that stands for one, and from the start.
-  pub published-from : (s : Machine.State) (P : State) → Represents t s P → (p : ℕ) (u : Machine.State) → afterFrom T s p ≡ some u → (Q : State) × Run P p Q × Represents t u Q
-  unfolding afterFrom
-  published-from s P r zero u e = (P, Run.none, subst (λ z. Represents t z P) (Option·some-injective s u e) r)
-  published-from s P r (suc p) u e =
-      let c = chained (afterFrom T s p) (λ z. step T z) u e in
-      let h = published-from s P r p (c .0) (c .1) in
-      let q = published (c .0) u (h .0) (h .2) (c .2) in
-      (q .0, more (h .1) (q .1), q .3)
+  -- From a state s₀ at position 0 that stands for P₀: p steps are a run of p transitions.
+  module _ (s₀ : Machine.State) (P₀ : State) (r₀ : Represents t s₀ P₀) where
+    pub published-from : (p : ℕ) (u : Machine.State) → afterFrom T s₀ p ≡ some u → (Q : State) × Run P₀ p Q × Represents t u Q
+    unfolding afterFrom
+    published-from zero u e = (P₀, Run.none, subst (λ z. Represents t z P₀) (Option·some-injective s₀ u e) r₀)
+    published-from (suc p) u e =
+        let c = chained (afterFrom T s₀ p) (λ z. step T z) u e in
+        let h = published-from p (c .0) (c .1) in
+        let q = published (c .0) u (h .0) (h .2) (c .2) in
+        (q .0, more (h .1) (q .1), q .3)
 
+    -- The converse, at every state that the plain machine comes to, where s₀ is good and has kept where its entries come from. There each transition is a step, by the rule of its number;
+    module _ (good : Good T s₀) (kept : Kept T s₀) where
+      only-from : (p : ℕ) (s : Machine.State) (P Q : State) → afterFrom T s₀ p ≡ some s → Represents t s P → (x : Transition P Q)
+          → (u : Machine.State) × (step T s ≡ some u) × (rule x ≡ ruleAt T s) × Represents t u Q
+      only-from p s P Q e r x =
+          let l : Leads T t s (rule x) Q = leads T t lies s P Q r (after-bound w n A s₀ good kept p s e) x in
+          (l .to, l .steps, l .by-rule, l .represents)
+
+      -- each run of p transitions ends in what the state after p steps stands for;
+      run-from : (p : ℕ) (P : State) → Run P₀ p P → (s : Machine.State) × (afterFrom T s₀ p ≡ some s) × Represents t s P
+      unfolding afterFrom
+      run-from p P Run.none = (s₀, refl, r₀)
+      run-from p P (more {p = k} {Q = Q} r x) =
+          let h = run-from k Q r in
+          let q = only-from k (h .0) Q P (h .1) (h .2) x in
+          (q .0, ap (λ o. o >>= λ u. step T u) (h .1) ∙ q .1, q .3)
+
+      -- and the one has no rule exactly where the other is final.
+      final-from : (p : ℕ) (s : Machine.State) (P : State) → afterFrom T s₀ p ≡ some s → Represents t s P → (step T s ≡ none) ↔ Final P
+      final-from p s P e r = (
+        (λ z Q x. let q = only-from p s P Q e r x in Option·none-ne-some (q .0) (sym z ∙ q .1)),
+        (λ f. never (step T s) (λ u z. let q = published s u P r z in f (q .0) (q .1))),
+      )
+
+  -- So it is from the start state and the initial state.
   pub published-run : (p : ℕ) (s : Machine.State) → after T p ≡ some s → (P : State) × Run (initial t) p P × Represents t s P
-  published-run p s e = published-from startState (initial t) (start-initial t) p s e
+  published-run = published-from startState (initial t) (start-initial t)
 
-  -- The converse, at every state that the plain machine comes to. There each transition is a step, by the rule of its number;
   pub published-only : (p : ℕ) (s : Machine.State) (P Q : State) → after T p ≡ some s → Represents t s P → (x : Transition P Q)
       → (u : Machine.State) × (step T s ≡ some u) × (rule x ≡ ruleAt T s) × Represents t u Q
-  published-only p s P Q e r x =
-      let l : Leads T t s (rule x) Q = leads T t lies s P Q r (after-bound w n A p s e) x in
-      (l .to, l .steps, l .by-rule, l .represents)
+  published-only = only-from startState (initial t) (start-initial t) (start-good w n A) (start-kept T (lies .facts))
 
-  -- each run of p transitions from the initial state ends in what the state after p steps stands for;
   pub run-published : (p : ℕ) (P : State) → Run (initial t) p P → (s : Machine.State) × (after T p ≡ some s) × Represents t s P
-  unfolding afterFrom
-  run-published p P Run.none = (startState, refl, start-initial t)
-  run-published p P (more {p = k} {Q = Q} r x) =
-      let h = run-published k Q r in
-      let q = published-only k (h .0) Q P (h .1) (h .2) x in
-      (q .0, ap (λ o. o >>= λ u. step T u) (h .1) ∙ q .1, q .3)
+  run-published = run-from startState (initial t) (start-initial t) (start-good w n A) (start-kept T (lies .facts))
 
-  -- and the one has no rule exactly where the other is final.
   pub final : (p : ℕ) (s : Machine.State) (P : State) → after T p ≡ some s → Represents t s P → (step T s ≡ none) ↔ Final P
-  final p s P e r = (
-    (λ z Q x. let q = published-only p s P Q e r x in Option·none-ne-some (q .0) (sym z ∙ q .1)),
-    (λ f. never (step T s) (λ u z. let q = published s u P r z in f (q .0) (q .1))),
-  )
+  final = final-from startState (initial t) (start-initial t) (start-good w n A) (start-kept T (lies .facts))

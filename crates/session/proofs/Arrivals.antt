@@ -14,7 +14,7 @@ use Rattle.machine.proofs.Reverse.{keeps-good}
 use Rattle.machine.proofs.Carried.{carried-change}
 use Rattle.calls.specs.Stops.{Room, room}
 use Rattle.calls.proofs.Stops.{Fits}
-use Rattle.calls.proofs.Answers.{enters-fits}
+use Rattle.calls.proofs.Entering.{enters-fits}
 use Rattle.session.specs.Types.{dirMeant}
 use Rattle.session.specs.Steps.{TokenAt, StepIs}
 use Rattle.session.specs.declared.Dir.{Dir}

@@ -1,5 +1,5 @@
 -- A call by its number: refused, or wound from the state that it is given.
-use mathlib.Core.Path.{_≡_}
+use mathlib.Core.Path.{_≡_, refl}
 use mathlib.Core.Bool.{false}
 use mathlib.Core.List.{List}
 use Prim.Native.Nat.{ℕ, _-_, _≤_, _<_}
@@ -10,9 +10,11 @@ use Rattle.calls.specs.Session.{Given}
 use Rattle.calls.specs.Stops.{Way, forward, moment, room}
 use Rattle.calls.specs.Winding.{wind}
 use Rattle.calls.specs.Calls.{callNumber, Enters, refusedOutcome, wound, windOf, forwardOf, backOf, goToOf}
+use Rattle.calls.specs.Moves.{by, back-to, forward-to}
 use Rattle.calls.specs.Visits.{Spot, seek, seekBack, offTerm, visitNumber, backToOf, forwardToOf}
 use Rattle.calls.proofs.Unrefused.{visit-none}
-use Rattle.calls.proofs.Answers.{wind-refused, back-to-refused, forward-to-refused, entered, seeks-back, seeks-forward, winds}
+use Rattle.calls.proofs.Entering.{entered}
+use Rattle.calls.proofs.Answers.{move-refused, by-number, moved}
 use Rattle.session.specs.Types.{lent, numberMeant}
 use Rattle.session.specs.Steps.{Ready}
 use Rattle.session.specs.declared.Session as Declared
@@ -21,7 +23,7 @@ use Rattle.session.proofs.Numbers.{number-some, call-none, visited-none
 module _ (w : List ℕ) (n : ℕ) (se : Declared.Session) (ls ts : List ℕ) where
   -- a number other than 0
   pub call-refused : (way : Way) (k count : ℕ) → k ≡ numberMeant (callNumber (lent w n se ls ts)) → (k ≡ 0 → ⊥) → windOf way (lent w n se ls ts) count ≡ refusedOutcome k (lent w n se ls ts)
-  call-refused way k count e z = wind-refused (lent w n se ls ts) k way (number-some (callNumber (lent w n se ls ts)) k e z) count
+  call-refused way k count e z = move-refused (by way count) (lent w n se ls ts) k (number-some (callNumber (lent w n se ls ts)) k e z)
 
   -- the number 0
   module _ (e : 0 ≡ numberMeant (callNumber (lent w n se ls ts))) where
@@ -34,7 +36,7 @@ module _ (w : List ℕ) (n : ℕ) (se : Declared.Session) (ls ts : List ℕ) whe
     pub call-winds : (way : Way) (count : ℕ)
         → windOf way (lent w n se ls ts) count ≡ wound (room ls ts) (wind way (tableIn w n) (room ls ts) count (moment (call-ready .state) (se .position)))
     unfolding call-ready
-    call-winds way count = winds (lent w n se ls ts) (enters-at .0) (enters-at .1) way count
+    call-winds way count = moved (by way count) (lent w n se ls ts) (enters-at .0) (enters-at .1) refl
 
 -- "go-to takes a position and is forward or back by the difference"
 module _ (g : Given) (q : ℕ) where
@@ -61,19 +63,21 @@ module _ (w : List ℕ) (n : ℕ) (se : Declared.Session) (ls ts : List ℕ) whe
 
   module _ (v : Spot) where
     pub back-refused : (k : ℕ) → k ≡ numberMeant (visitNumber (v .node) (lent w n se ls ts)) → (k ≡ 0 → ⊥) → backToOf (lent w n se ls ts) v ≡ refusedOutcome k (lent w n se ls ts)
-    back-refused k e z = back-to-refused (lent w n se ls ts) k v (number-some (visitNumber (v .node) (lent w n se ls ts)) k e z)
+    unfolding visitNumber
+    back-refused k e z = by-number (back-to v) (lent w n se ls ts) k (number-some (visitNumber (v .node) (lent w n se ls ts)) k e z)
 
     pub back-seeks : (e : 0 ≡ numberMeant (visitNumber (v .node) (lent w n se ls ts)))
         → backToOf (lent w n se ls ts) v ≡ wound (room ls ts) (seekBack (tableIn w n) (room ls ts) v (moment (visit-ready (v .node) e .state) (se .position)))
     unfolding visit-ready
-    back-seeks e = seeks-back (lent w n se ls ts) (visit-enters (v .node) e .0) (visit-enters (v .node) e .1) v (on-term (v .node) e)
+    back-seeks e = moved (back-to v) (lent w n se ls ts) (visit-enters (v .node) e .0) (visit-enters (v .node) e .1) (rw (on-term (v .node) e))
 
     module _ (count : ℕ) where
       pub forward-refused : (k : ℕ) → k ≡ numberMeant (visitNumber (v .node) (lent w n se ls ts)) → (k ≡ 0 → ⊥)
           → forwardToOf (lent w n se ls ts) v count ≡ refusedOutcome k (lent w n se ls ts)
-      forward-refused k e z = forward-to-refused (lent w n se ls ts) k v count (number-some (visitNumber (v .node) (lent w n se ls ts)) k e z)
+      unfolding visitNumber
+      forward-refused k e z = by-number (forward-to v count) (lent w n se ls ts) k (number-some (visitNumber (v .node) (lent w n se ls ts)) k e z)
 
       pub forward-seeks : (e : 0 ≡ numberMeant (visitNumber (v .node) (lent w n se ls ts)))
           → forwardToOf (lent w n se ls ts) v count ≡ wound (room ls ts) (seek forward (tableIn w n) (room ls ts) v count (moment (visit-ready (v .node) e .state) (se .position)))
       unfolding visit-ready
-      forward-seeks e = seeks-forward (lent w n se ls ts) (visit-enters (v .node) e .0) (visit-enters (v .node) e .1) v (on-term (v .node) e) count
+      forward-seeks e = moved (forward-to v count) (lent w n se ls ts) (visit-enters (v .node) e .0) (visit-enters (v .node) e .1) (rw (on-term (v .node) e))

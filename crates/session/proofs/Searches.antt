@@ -18,7 +18,7 @@ use Rattle.calls.proofs.Stops.{Fits}
 use Rattle.calls.proofs.Visits.{wind-none, sought, each-sought}
 use Rattle.calls.proofs.Retrace.{backed, again}
 use Rattle.calls.proofs.Nowhere.{nowhere-found}
-use Rattle.calls.proofs.Answers.{enters-fits, laidDown, held-laid-down, laid-room, laid-enters}
+use Rattle.calls.proofs.Entering.{enters-fits, laidDown, held-laid-down, laid-room, laid-enters}
 use Rattle.session.specs.Types.{sessionMeant, stopMeant, outcomeMeant}
 use Rattle.session.specs.Steps.{TokenAt, Ready}
 use Rattle.session.specs.Passes.{endedBy, Winds}

@@ -8,7 +8,7 @@ use borrow.Author.Tests.{lt-ltb}
 use Rattle.calls.specs.Session.{Session, Stop, spent, jam, far, start, logFull, tapeFull, found, answer, refused, Outcome, Given}
 use Rattle.calls.specs.Held.{wellFormed, stateIn}
 use Rattle.calls.specs.Calls.{lentNumber, stateGiven, callNumber}
-use Rattle.calls.specs.Demand.{Move, outcomeOf}
+use Rattle.calls.specs.Moves.{Move, outcomeOf}
 use Rattle.calls.proofs.Unrefused.{call-as-lent, call-nine}
 use Rattle.calls.proofs.Answers.{move-refused, refused-unchanged}
 use Rattle.face.specs.declared.HostSession.{HostSession}
@@ -51,7 +51,7 @@ module _ (m : Move) (w : List ℕ) (n : ℕ) (s : HostSession) (ls ts : List ℕ
   given d = record { table = w; n = n; session = madeWith (toward s d); log = ls; tape = ts }
 
   given-as : (d : ℕ) → sessionNumbers (madeWith (toward s d)) ≡ toward s d → givenBack (toward s d) (outcomeOf m (given d)) ≡ outcomeTold (outcomeOf m (given d))
-  given-as d same = given-told (toward s d) (outcomeOf m (given d)) (λ k e. ap sessionNumbers (refused-unchanged (given d) k m e .session-is) ∙ same)
+  given-as d same = given-told (toward s d) (outcomeOf m (given d)) (λ k e. ap sessionNumbers (refused-unchanged m (given d) k e .session-is) ∙ same)
 
   by-direction : (d : ℕ) → called (λ g. outcomeOf m g) w n (toward s d) ls ts ≡ givenBack (toward s d) (outcomeOf m (given d))
   unfolding called
@@ -59,7 +59,7 @@ module _ (m : Move) (w : List ℕ) (n : ℕ) (s : HostSession) (ls ts : List ℕ
   by-direction (suc zero) = sym (given-as (suc zero) refl)
   by-direction (suc (suc k)) =
       let nowhere-0 : given (suc (suc k)) .session .node ≡ 0 = rw (lt-ltb 1 (suc (suc k)) (omega arith)) in
-      sym (ap (givenBack (toward s (suc (suc k)))) (move-refused (given (suc (suc k))) (noSessionNumber w n ls ts) m (nowhere (given (suc (suc k))) nowhere-0)))
+      sym (ap (givenBack (toward s (suc (suc k)))) (move-refused m (given (suc (suc k))) (noSessionNumber w n ls ts) (nowhere (given (suc (suc k))) nowhere-0)))
 
   called-so : called (λ g. outcomeOf m g) w n s ls ts ≡ givenBack s (outcomeOf m (given (s .direction)))
   called-so = by-direction (s .direction)

@@ -12,7 +12,7 @@ use Rattle.calls.specs.Session.{Session, Given}
 use Rattle.calls.specs.Calls.{callNumber}
 use Rattle.calls.specs.Top.{Which, log, tape, Shown, notShown, topOf, seen, lengthGiven}
 use Rattle.calls.proofs.Unrefused.{call-names}
-use Rattle.calls.proofs.Answers.{entered}
+use Rattle.calls.proofs.Entering.{entered}
 use Rattle.calls.proofs.Top.{top-or-empty, top-refused, top-empty, top-points, points, refused-nowhere, part-size, cut-fits}
 use Rattle.face.specs.declared.HostSession.{HostSession}
 use Rattle.face.specs.declared.HostPart.{HostPart}

@@ -7,8 +7,8 @@ use Rattle.machine.specs.Machine.{down, up}
 use Rattle.calls.specs.Session.{Session, Stop, spent, jam, far, start, logFull, tapeFull, found, answer, refused, Outcome}
 use Rattle.calls.specs.Stops.{forward, back}
 use Rattle.calls.specs.Visits.{spot}
-use Rattle.calls.specs.Demand
-use Rattle.calls.specs.Demand.{by, go-to, back-to, forward-to}
+use Rattle.calls.specs.Moves
+use Rattle.calls.specs.Moves.{by, go-to, back-to, forward-to}
 use Rattle.yildreuz.specs.declared.Move.{Move}
 use Rattle.yildreuz.specs.declared.Move.the-variants.{Forward, Back, GoTo, BackTo, ForwardTo}
 use Rattle.face.specs.declared.HostSession.{HostSession}
@@ -18,7 +18,7 @@ use Rattle.face.specs.Told.{toldWith}
 use Rattle.session.specs.Types.{dirMeant}
 
 -- the call of documents 01 and 02 that winds
-abbrev pub moveMeant : Move → Demand.Move
+abbrev pub moveMeant : Move → Moves.Move
 moveMeant (Forward c) = by forward c
 moveMeant (Back c) = by back c
 moveMeant (GoTo q) = go-to q

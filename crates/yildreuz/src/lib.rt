@@ -6,7 +6,7 @@ ghost use Rattle.text.specs.Reading.{readOf};
 ghost use Rattle.text.specs.Writing.{writeOf};
 ghost use Rattle.calls.specs.Calls.{openOf, forwardOf, backOf, goToOf};
 ghost use Rattle.calls.specs.Visits.{backToOf, forwardToOf};
-ghost use Rattle.calls.specs.Demand.{outcomeOf};
+ghost use Rattle.calls.specs.Moves.{outcomeOf};
 ghost use Rattle.session.specs.Types.{outcomeMeant, lent};
 ghost use Rattle.face.specs.Numbers.{spotIn};
 ghost use Rattle.face.specs.Told.{readTold, writeTold, openTold, called, topCalled};

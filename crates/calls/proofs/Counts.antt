@@ -1,0 +1,117 @@
+-- The kinds of call that go by a number of steps: forward and back by a count, and go-to.
+use mathlib.Core.Path.{_≡_, refl, ap, _∙_, subst}
+use mathlib.Core.Bool.{Bool, true, false}
+use mathlib.Core.Option.{Option, none, some}
+use Prim.Native.Nat.{ℕ, _+_, _-_, _≤_, _<_, min}
+use native.Mathlib.Nat.{zero-add}
+use native.Mathlib.Omega.{arith}
+use lib.Dec.{leb}
+use borrow.Author.Tests.{leb-true}
+use Rattle.term.specs.Choice.{choose}
+use Rattle.term.specs.Table.{Table}
+use Rattle.machine.specs.Machine.{State, afterFrom}
+use Rattle.machine.specs.Carried.{carriedOver}
+use Rattle.machine.proofs.Sums.{between-up, between-down}
+use Rattle.calls.specs.Session.{Given}
+use Rattle.calls.specs.Stops.{Way, forward, back, Moment, moment, Room, room}
+use Rattle.calls.specs.Winding.{Run, wind}
+use Rattle.calls.specs.Calls.{stateGiven, callNumber, wound, outcomeBy, windOf, goToOf}
+use Rattle.calls.specs.Allowed.{allowed}
+use Rattle.calls.specs.Moves.{by, go-to, Course, course}
+use Rattle.calls.proofs.Runs.{Trail, trail-after, On, forward-on, forward-counted, Off, back-off}
+use Rattle.calls.proofs.Visits.{reaches}
+use Rattle.calls.proofs.MoveLaws.{moveNumber, shaped, Stood, Arrives, Takes, MoveLaws}
+
+module _ (T : Table) (r : Room) (s₀ : State) (p : ℕ) (s : State) (h : Stood T r s₀ p s) where
+  abbrev now : Moment
+  now = moment s p
+
+  module _ (c : ℕ) where
+    pub counted : wind forward T r c now .steps ≡ allowed T s₀ r c p
+    counted = forward-counted T r s₀ c now (trail-after T r s₀ (h .trail))
+
+    -- the states along a call forward
+    pub forward-state : (j : ℕ) → j ≤ wind forward T r c now .steps → afterFrom T s₀ (p + j) ≡ some (wind forward T r j now .last .state)
+    forward-state j l =
+        trail-after T r s₀
+        (subst (λ i. Trail T r s₀ (p + i) (wind forward T r j now .last .state)) (reaches forward T r c now j l) (forward-on T r s₀ j now p (h .trail) .trail))
+
+    pub off : Off T r s₀ c p 0 (wind back T r c now)
+    off = rw zero-add at (back-off T r s₀ (h .facts) (h .good) (h .fits) c 0 (h .trail) (λ l. refl))
+
+    pub forward-arrives : Arrives T r s₀ p (p + allowed T s₀ r c p) (wind forward T r c now)
+    forward-arrives = record {
+      trail = subst (λ k. Trail T r s₀ (p + k) (wind forward T r c now .last .state)) counted (on .trail);
+      position-is = on .position-is ∙ ap (λ k. p + k) counted;
+      steps-are = counted ∙ omega arith;
+      carried-is = on .carried-is ∙ ap (λ k. carriedOver T s₀ k p) counted ∙ between-up T s₀ (allowed T s₀ r c p) p;
+    }
+      where
+        on : On T r s₀ p p (wind forward T r c now)
+        on = forward-on T r s₀ c now p (h .trail)
+
+    pub back-arrives : Arrives T r s₀ p (p - min c p) (wind back T r c now)
+    back-arrives = record {
+      trail = off .trail;
+      position-is = off .position-is ∙ omega arith;
+      steps-are = off .steps-are ∙ omega arith;
+      carried-is = off .carried-is ∙ between-down T s₀ (min c p) p (p - min c p) (omega arith);
+    }
+
+  -- and along a call back
+  pub back-state : (j : ℕ) → j ≤ p → afterFrom T s₀ (p - j) ≡ some (wind back T r j now .last .state)
+  back-state j l = let e : min j p ≡ j = omega arith in trail-after T r s₀ (subst (λ i. Trail T r s₀ (p - i) (wind back T r j now .last .state)) e (off j .trail))
+
+  count-takes : (way : Way) (c : ℕ) → Takes T r s₀ p (course T s₀ r (by way c) p) (wind way T r c now)
+  count-takes forward c = record { arrives = forward-arrives c; unhindered = λ x. absurd x; stop-says = tt }
+  count-takes back c = record { arrives = back-arrives c; unhindered = λ x. off c .unhindered; stop-says = tt }
+
+  -- one way or the other, as the course of go-to has it
+  abbrev sideways : ℕ → Bool → Course
+  sideways q d = record { to = choose d (λ _. p + allowed T s₀ r (q - p) p) (λ _. p - min (p - q) p); goesBack = q < p; says = λ x. Unit }
+
+  go-to-takes : (q : ℕ) → Takes T r s₀ p (course T s₀ r (go-to q) p) (choose (leb p q) (λ _. wind forward T r (q - p) now) (λ _. wind back T r (p - q) now))
+  go-to-takes q = by-side (leb p q) refl
+    where
+      by-side : (d : Bool) → leb p q ≡ d → Takes T r s₀ p (sideways q d) (choose d (λ _. wind forward T r (q - p) now) (λ _. wind back T r (p - q) now))
+      by-side true e = record { arrives = forward-arrives (q - p); unhindered = λ x. (let l : p ≤ q = leb-true p q e in absurd (omega arith)); stop-says = tt }
+      by-side false e = record { arrives = back-arrives (p - q); unhindered = λ x. off (p - q) .unhindered; stop-says = tt }
+
+-- They put no tests of their own.
+count-shape : (way : Way) (c : ℕ) (g : Given) → windOf way g c ≡ shaped (by way c) g
+unfolding windOf callNumber
+count-shape way c g = refl
+
+-- Two walks that are the same from each state at the session's position are wound alike.
+same-walks : (o : Option ℕ) (st : Option State) (g : Given) (f h : Moment → Run) → ((s : State) → f (moment s (g .session .position)) ≡ h (moment s (g .session .position)))
+    → outcomeBy o st g f ≡ outcomeBy o st g h
+same-walks (some k) st g f h e = refl
+same-walks none (some s) g f h e = ap (wound (room (g .log) (g .tape))) (e s)
+same-walks none none g f h e = refl
+
+go-to-shape : (q : ℕ) (g : Given) → goToOf g q ≡ shaped (go-to q) g
+unfolding goToOf
+go-to-shape q g = by-side (leb (g .session .position) q) refl
+  where
+    by-side : (d : Bool) → leb (g .session .position) q ≡ d → goToOf g q ≡ shaped (go-to q) g
+    by-side true e = rw e (count-shape forward (q - g .session .position) g ∙ same-walks (moveNumber (go-to q) g) (stateGiven g) g _ _ (λ s. rw e))
+    by-side false e = rw e (count-shape back (g .session .position - q) g ∙ same-walks (moveNumber (go-to q) g) (stateGiven g) g _ _ (λ s. rw e))
+
+-- what holds of forward and of back by a count holds of go-to
+either-way : (P : Run → Type 0) (b : Bool) (x y : Unit {0} → Run) → ((i : Unit {0}) → P (x i)) → ((i : Unit {0}) → P (y i)) → P (choose b x y)
+either-way P true x y f h = f tt
+either-way P false x y f h = h tt
+
+pub count-laws : (way : Way) (c : ℕ) → MoveLaws (by way c)
+count-laws way c = record {
+  shape = count-shape way c;
+  walks = λ T r P x w. w .walk way c;
+  takes = λ T r s₀ p s h. count-takes T r s₀ p s h way c;
+}
+
+pub go-to-laws : (q : ℕ) → MoveLaws (go-to q)
+go-to-laws q = record {
+  shape = go-to-shape q;
+  walks = λ T r P x w. either-way P (leb (x .position) q) _ _ (λ i. w .walk forward _) (λ i. w .walk back _);
+  takes = λ T r s₀ p s h. go-to-takes T r s₀ p s h q;
+}

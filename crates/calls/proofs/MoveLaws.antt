@@ -1,0 +1,66 @@
+-- What a kind of call has to show for the list of the third demand to hold it: that it has the shape of every call, what its walk is made of, and where that takes the plain machine.
+use mathlib.Core.Path.{_≡_}
+use mathlib.Core.Option.{Option}
+use mathlib.Core.List.{_++_}
+use Prim.Native.Nat.{ℕ, _+_, _-_}
+use lib.Dec.{leb}
+use Rattle.term.specs.Choice.{first, choose}
+use Rattle.term.specs.Table.{Table, tableIn}
+use Rattle.term.specs.Facts.{Facts}
+use Rattle.machine.specs.Machine.{State}
+use Rattle.machine.specs.Good.{Good}
+use Rattle.machine.specs.Carried.{carriedBetween}
+use Rattle.calls.specs.Session.{Stop, Outcome, Given}
+use Rattle.calls.specs.Stops.{Way, forward, back, Moment, moment, Room, room}
+use Rattle.calls.specs.Winding.{Run, ended, wind}
+use Rattle.calls.specs.Calls.{stateGiven, callTests, outcomeBy}
+use Rattle.calls.specs.Visits.{seek, seekBack, foundBy}
+use Rattle.calls.specs.Moves.{Move, by, go-to, back-to, forward-to, outcomeOf, ownTests, Course, course}
+use Rattle.calls.proofs.Stops.{Fits}
+use Rattle.calls.proofs.Runs.{Unhindered, Trail}
+
+-- the walk of each kind of call, from a moment
+abbrev pub runOf : Move → Table → Room → Moment → Run
+runOf (by way c) T r m = wind way T r c m
+runOf (go-to q) T r m = choose (leb (m .position) q) (λ _. wind forward T r (q - m .position) m) (λ _. wind back T r (m .position - q) m)
+runOf (back-to v) T r m = seekBack T r v m
+runOf (forward-to v c) T r m = seek forward T r v c m
+
+-- One shape: the first that applies of 7 to 9 and the call's own tests refuses it, and else it winds from the state given.
+abbrev pub moveNumber : Move → Given → Option ℕ
+moveNumber m g = first (callTests g ++ ownTests m (g .n) (g .session .position))
+
+abbrev pub shaped : Move → Given → Outcome
+shaped m g = outcomeBy (moveNumber m g) (stateGiven g) g (λ x. runOf m (tableIn (g .table) (g .n)) (room (g .log) (g .tape)) x)
+
+-- P holds of every walk by a count from a moment, of the same walk as found, and of none.
+pub record OfWalks (T : Table) (r : Room) (P : Run → Type 0) (m : Moment) : Type 0 where
+  pub walk : (way : Way) (c : ℕ) → P (wind way T r c m)
+  pub found : (way : Way) (c : ℕ) → P (foundBy (wind way T r c m))
+  pub none : P (ended T m Stop.none)
+
+module _ (T : Table) (r : Room) (s₀ : State) where
+  -- The plain machine comes from a good state s₀ that fits the slices to s in p steps, all within the slices.
+  pub record Stood (p : ℕ) (s : State) : Type 0 where
+    pub facts : Facts T
+    pub good : Good T s₀
+    pub fits : Fits r s₀
+    pub trail : Trail T r s₀ p s
+
+  -- A walk from p to q on that trail.
+  pub record Arrives (p q : ℕ) (run : Run) : Type 0 where
+    pub trail : Trail T r s₀ q (run .last .state)
+    pub position-is : run .last .position ≡ q
+    pub steps-are : run .steps ≡ (q - p) + (p - q)
+    pub carried-is : run .carried ≡ carriedBetween T s₀ p q
+
+  -- A walk that takes p along a course.
+  pub record Takes (p : ℕ) (c : Course) (run : Run) : Type 0 where
+    pub arrives : Arrives p (c .to) run
+    pub unhindered : c .goesBack → Unhindered (run .stop)
+    pub stop-says : c .says (run .stop)
+
+pub record MoveLaws (m : Move) : Type 1 where
+  pub shape : (g : Given) → outcomeOf m g ≡ shaped m g
+  pub walks : (T : Table) (r : Room) (P : Run → Type 0) (x : Moment) → OfWalks T r P x → P (runOf m T r x)
+  pub takes : (T : Table) (r : Room) (s₀ : State) (p : ℕ) (s : State) → Stood T r s₀ p s → Takes T r s₀ p (course T s₀ r m p) (runOf m T r (moment s p))
