@@ -1,7 +1,7 @@
 /* How much stack each call touches on the deepest texts and tables there are, beside what yildreuz.h says; exit status 1 if
    a call touches more.
 
-     cc -pthread stack.c libyildreuz.a -o stack && ./stack */
+     cc -pthread host/stack.c target/staticlib/libyildreuz.a -o target/stack && target/stack */
 #define _POSIX_C_SOURCE 200809L
 #include <pthread.h>
 #include <stdio.h>

@@ -1,7 +1,7 @@
 /* A viewer's loop in miniature: reads a term from standard input, steps forward to the end of its walk and back to the
    start, and prints each state as the program winder does.
 
-     cc walk.c libyildreuz.a -o walk && printf '(\\x.x)(\\y.y)' | ./walk */
+     cc host/walk.c target/staticlib/libyildreuz.a -o target/walk && printf '(\\x.x)(\\y.y)' | target/walk */
 #include <stdio.h>
 #include "yildreuz.h"
 

@@ -16,7 +16,8 @@
    - a slice or word that a call writes overlaps nothing else that the call is lent.
 
    What a refusal leaves. No lent byte or word differs but the one through which top tells the number, and a session given
-   comes back as it was, number for number. Every other number of the answer is 0, beside the refusal's own:
+   comes back as it was, number for number. Every other number of the answer is 0, but for the refusal's own and, in an
+   outcome, the stop YILDREUZ_REFUSED:
      1  the text has more than 3,000 bytes            6  the table has fewer than 5 words for each node of the term
      2  it has a byte that no term has                7  n is 0 or over 3,000, the table has fewer than 5 x n words,
      3  it has a name over 8 bytes, or one that          or no closed term has it
@@ -31,6 +32,13 @@
    Each call tests its numbers in this order: read 1 to 6; read_numbers 1, 13, 14, 6; write and write_numbers 7, 11;
    to_numbers 1 to 5, 11; to_names 1, 13, 14, 11; open 7, 8; forward, back and go_to 7 to 9; back_to and forward_to 7 to 9,
    12; top 7 to 10.
+
+   What lies in the slices. Node i of a table, 1 to n, has the words table[5(i-1)] to table[5(i-1)+4]: its kind (1 a
+   variable, 2 an abstraction, 3 an application), its left part (of a variable the binder, of an abstraction the body, of
+   an application the function), its right part (of an application the argument, else 0), its parent (0 at the root, which
+   is node 1) and its level (in how many arguments it stands). Log and tape grow from the first word of their slices up.
+   An entry is the entries inside it and, last, its variable's node: level(v) - level(left(v)) entries are inside that of
+   the variable v. A bullet, on the tape alone, is the word 0. The words above both lists are 0.
 
    Two dialects of text. The one with names is that of read and write. The number dialect has \ before a body, @ before
    function and argument, and for a variable a decimal number without leading zeros: how many abstractions stand between
@@ -215,9 +223,9 @@ yildreuz_outcome yildreuz_go_to(const uint32_t *table, size_t table_len, uint32_
 
 /* Goes back to the last earlier position at which the token stood on the node in the direction, and ends there as
    YILDREUZ_FOUND. The present position is not an earlier one. Where no position from 0 to the present less one is such,
-   it ends as YILDREUZ_NONE, and gives back the session and every word of log and tape as they were; elsewhere than after
-   such a list of calls as the top of this file speaks of, a jam or a full slice on the way back means none too, and the
-   positions are those that the session has. It has no other stop but YILDREUZ_REFUSED.
+   it ends as YILDREUZ_NONE, and gives back the session and every word of log and tape as they were. On a session that
+   comes from no such list of calls as the top of this file speaks of, a jam or a full slice on the way back means none
+   too, and the positions are the session's own. It has no other stop but YILDREUZ_REFUSED.
    Borrows, needs and leaves to the caller what yildreuz_forward does, and refuses as it does, with 7 to 9 or 12, of which
    12 is also for a direction other than 0 and 1. */
 yildreuz_outcome yildreuz_back_to(const uint32_t *table, size_t table_len, uint32_t n, yildreuz_session session,
@@ -235,7 +243,8 @@ yildreuz_outcome yildreuz_forward_to(const uint32_t *table, size_t table_len, ui
 
 /* Points at the newest entry of the log (which is YILDREUZ_LOG) or of the tape (YILDREUZ_TAPE): the words log[offset] to
    log[offset + len - 1], or those of tape, are that entry, its variable last and the entries inside it below. A bullet on
-   top of the tape is its one word, 0. Nothing is copied: the words stand where they stood, until the next call that winds.
+   top of the tape is its one word, 0. Nothing is copied: the words stand where they stood, until the next call that winds
+   or opens.
    Borrows table, log and tape to read them, and *refusal to write the number, 0 for none, in every call.
    Refuses with 7 to 10. A number other than 0 and 1 chooses no list.
    Needs YILDREUZ_CALL_STACK bytes of stack.

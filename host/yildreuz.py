@@ -1,14 +1,15 @@
-"""Yildreuz for Python: the calls of yildreuz.h over a shared library, with Python's standard library alone. The library is made of the archive:
+r"""Yildreuz for Python: the calls of yildreuz.h over a shared library, with Python's standard library alone. The library is made of the archive:
 
-    cc -shared -o libyildreuz.so -Wl,--whole-archive libyildreuz.a -Wl,--no-whole-archive
+    rt staticlib yildreuz
+    cc -shared -o target/libyildreuz.so -Wl,--whole-archive target/staticlib/libyildreuz.a -Wl,--no-whole-archive
 
-and used so:
+and used so, with host/ in PYTHONPATH:
 
     import yildreuz
 
-    lib = yildreuz.Library('libyildreuz.so')
+    lib = yildreuz.Library('target/libyildreuz.so')
     table, log, tape = yildreuz.words(100), yildreuz.words(64), yildreuz.words(64)
-    n, refusal = lib.read(rb'(\\x.x x)(\\y.y)', table)
+    n, refusal = lib.read(rb'(\x.x x)(\y.y)', table)
     session, refusal = lib.open(table, n, log, tape)
     out = lib.forward(table, n, session, log, tape, 100)    # out.steps 12, out.stop ANSWER, out.value 6, out.peak 6 (in bits), out.carried 6
     part, refusal = lib.top(table, n, out.session, log, tape, yildreuz.LOG)
@@ -17,9 +18,9 @@ and used so:
     there = lib.forward_to(table, n, home.session, log, tape, 2, yildreuz.UP, 100)    # there.stop FOUND, node 2 up at position 4
     none = lib.back_to(table, n, there.session, log, tape, 2, yildreuz.UP)    # none.stop NONE: it had not been there before
     text = bytearray(yildreuz.MOST_BYTES)
-    written = lib.write(table, n, text)    # text[:written.len] is now rb'(\\v2.v2 v2) (\\v6.v6)'
-    written = lib.write_numbers(table, n, text)    # and now rb'@ \\ @ 0 0 \\ 0', which lib.read_numbers reads
-    written = lib.to_names(rb'@ \\ @ 0 0 \\ 0', text)    # the names again; lib.to_numbers goes the other way
+    written = lib.write(table, n, text)    # text[:written.len] is now rb'(\v2.v2 v2) (\v6.v6)'
+    written = lib.write_numbers(table, n, text)    # and now rb'@ \ @ 0 0 \ 0', which lib.read_numbers reads
+    written = lib.to_names(rb'@ \ @ 0 0 \ 0', text)    # the names again; lib.to_numbers goes the other way
 
 Table, log and tape are the caller's: `words(k)`, or any writable buffer of 32-bit words such as an array('I') or a memoryview of a part of one. So is what
 a text is written into: a bytearray, or any other writable buffer of bytes. A call borrows them while it runs and writes into them in place. Sessions and

@@ -1,4 +1,4 @@
-// The readers, the writers, the conversions and the calls on a session for a host in another language: host/yildreuz.h has the same structs and functions in C.
+// The readers, the writers, the conversions and the calls on a session for a host in another language: host/yildreuz.h declares these functions, and the structs of `face`, in C.
 ghost use mathlib.Core.Path.{_≡_};
 ghost use Rattle.text.specs.Dialects.{writeNumbersOf, toNumbersOf, toNamesOf};
 ghost use Rattle.text.specs.NumberReading.{readNumbersOf};
@@ -38,7 +38,7 @@ use session::Session;
 use texts::reading_told;
 use texts::written_told;
 
-// The reader's answer, and the table slice as it leaves it.
+// The reader's answer, and the table slice as it leaves it; the same of the number dialect.
 #[no_mangle]
 pub extern "C" fn yildreuz_read(text: &[u8], table: &mut [u32]) -> HostReading
     ensures { λ r. ⌜ (r, now (table .exit)) ≡ readTold (readOf (now (text .entry)) (now (table .entry))) ⌝ }
@@ -46,20 +46,19 @@ pub extern "C" fn yildreuz_read(text: &[u8], table: &mut [u32]) -> HostReading
     reading_told(reader::read(text, table))
 }
 
-// The writer's answer, and the lent bytes as it leaves them.
-#[no_mangle]
-pub extern "C" fn yildreuz_write(table: &[u32], n: u32, text: &mut [u8]) -> HostWritten
-    ensures { λ r. ⌜ (r, now (text .exit)) ≡ writeTold (writeOf (now (table .entry)) n (now (text .entry))) ⌝ }
-{
-    written_told(writer::write(table, n, text))
-}
-
-// The same in the number dialect.
 #[no_mangle]
 pub extern "C" fn yildreuz_read_numbers(text: &[u8], table: &mut [u32]) -> HostReading
     ensures { λ r. ⌜ (r, now (table .exit)) ≡ readTold (readNumbersOf (now (text .entry)) (now (table .entry))) ⌝ }
 {
     reading_told(reader::read_numbers(text, table))
+}
+
+// The writer's answer, and the lent bytes as it leaves them; the same of the number dialect.
+#[no_mangle]
+pub extern "C" fn yildreuz_write(table: &[u32], n: u32, text: &mut [u8]) -> HostWritten
+    ensures { λ r. ⌜ (r, now (text .exit)) ≡ writeTold (writeOf (now (table .entry)) n (now (text .entry))) ⌝ }
+{
+    written_told(writer::write(table, n, text))
 }
 
 #[no_mangle]
@@ -84,7 +83,7 @@ pub extern "C" fn yildreuz_to_names(text: &[u8], out: &mut [u8]) -> HostWritten
     written_told(dialect::to_names(text, out))
 }
 
-// Open's answer, its session in numbers, and both slices as it leaves them. The others the same.
+// Open's answer, its session in numbers, and both slices as it leaves them.
 #[no_mangle]
 pub extern "C" fn yildreuz_open(
     table: &[u32],
@@ -153,6 +152,23 @@ fn call(
     given_back(session, o)
 }
 
+// To a position.
+#[no_mangle]
+pub extern "C" fn yildreuz_go_to(
+    table: &[u32],
+    n: u32,
+    session: HostSession,
+    log: &mut [u32],
+    tape: &mut [u32],
+    position: u32,
+) -> HostOutcome
+    ensures { λ r. ⌜ (r, now (log .exit), now (tape .exit))
+        ≡ called (λ g. goToOf g position) (now (table .entry)) n session (now (log .entry)) (now (tape .entry)) ⌝ }
+{
+    call(table, n, session, log, tape, Move::GoTo(position))
+}
+
+// Forward by a count.
 #[no_mangle]
 pub extern "C" fn yildreuz_forward(
     table: &[u32],
@@ -168,34 +184,24 @@ pub extern "C" fn yildreuz_forward(
     call(table, n, session, log, tape, Move::Forward(count))
 }
 
+// Forward by a count, or to the first later position that it reaches at which the token stands on a node in a direction.
 #[no_mangle]
-pub extern "C" fn yildreuz_back(
+pub extern "C" fn yildreuz_forward_to(
     table: &[u32],
     n: u32,
     session: HostSession,
     log: &mut [u32],
     tape: &mut [u32],
+    node: u32,
+    direction: u32,
     count: u32,
 ) -> HostOutcome
     ensures { λ r. ⌜ (r, now (log .exit), now (tape .exit))
-        ≡ called (λ g. backOf g count) (now (table .entry)) n session (now (log .entry)) (now (tape .entry)) ⌝ }
+        ≡ called (λ g. forwardToOf g (spotIn node direction) count) (now (table .entry)) n session (now (log .entry)) (now (tape .entry)) ⌝ }
 {
-    call(table, n, session, log, tape, Move::Back(count))
-}
-
-#[no_mangle]
-pub extern "C" fn yildreuz_go_to(
-    table: &[u32],
-    n: u32,
-    session: HostSession,
-    log: &mut [u32],
-    tape: &mut [u32],
-    position: u32,
-) -> HostOutcome
-    ensures { λ r. ⌜ (r, now (log .exit), now (tape .exit))
-        ≡ called (λ g. goToOf g position) (now (table .entry)) n session (now (log .entry)) (now (tape .entry)) ⌝ }
-{
-    call(table, n, session, log, tape, Move::GoTo(position))
+    let i = chosen_node(node, direction);
+    let dir = chosen_dir(direction);
+    call(table, n, session, log, tape, Move::ForwardTo(i, dir, count))
 }
 
 // Back to the last earlier position at which the token stood on a node in a direction.
@@ -217,24 +223,20 @@ pub extern "C" fn yildreuz_back_to(
     call(table, n, session, log, tape, Move::BackTo(i, dir))
 }
 
-// Forward by a count, or to the first later position that it reaches at which the token stands on a node in a direction.
+// Back by a count.
 #[no_mangle]
-pub extern "C" fn yildreuz_forward_to(
+pub extern "C" fn yildreuz_back(
     table: &[u32],
     n: u32,
     session: HostSession,
     log: &mut [u32],
     tape: &mut [u32],
-    node: u32,
-    direction: u32,
     count: u32,
 ) -> HostOutcome
     ensures { λ r. ⌜ (r, now (log .exit), now (tape .exit))
-        ≡ called (λ g. forwardToOf g (spotIn node direction) count) (now (table .entry)) n session (now (log .entry)) (now (tape .entry)) ⌝ }
+        ≡ called (λ g. backOf g count) (now (table .entry)) n session (now (log .entry)) (now (tape .entry)) ⌝ }
 {
-    let i = chosen_node(node, direction);
-    let dir = chosen_dir(direction);
-    call(table, n, session, log, tape, Move::ForwardTo(i, dir, count))
+    call(table, n, session, log, tape, Move::Back(count))
 }
 
 // Where the top entry lies in the lent slice. The number goes out through `refusal`.

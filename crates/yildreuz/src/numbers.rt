@@ -34,7 +34,7 @@ pub(crate) fn session_numbers(s: Session) -> HostSession
     }
 }
 
-// A direction above 1 is none: the session then stands at node 0, where every call refuses it, and after 7 and 8.
+// A direction above 1 is none: the session then stands at node 0, where every call refuses it with 9, after 7 and 8.
 pub(crate) fn made_with(s: HostSession) -> Session
     ensures { λ r. ⌜ sessionMeant r ≡ madeWith s ⌝ }
 {
