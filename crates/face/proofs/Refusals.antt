@@ -15,7 +15,7 @@ use Rattle.calls.specs.Demand.{RefusedCall}
 use Rattle.calls.proofs.Unrefused.{lent-seven, lent-log-eight, lent-tape-eight, lent-unrefused, visit-twelve}
 use Rattle.calls.proofs.Answers.{own-refused, refused-unchanged}
 use Rattle.face.specs.declared.HostSession.{HostSession}
-use Rattle.face.specs.Numbers.{sessionNumbers, sessionIn, stopCode, stopValue, spotIn}
+use Rattle.face.specs.Numbers.{sessionNumbers, sessionIn, refusedCode, stopCode, stopValue, spotIn}
 use Rattle.face.specs.Told.{outcomeTold, refusedTold, noSessionNumber, calledOn, called}
 use Rattle.face.proofs.Codes.{no-direction, numbers-told, codes-injective}
 
@@ -57,9 +57,9 @@ module _ (g : Given) (i k : ℕ) (h : 1 < k) (e : callNumber g ≡ none) where
   pub forward-to-no-spot : (c : ℕ) → forwardToOf g (spotIn i k) c ≡ refusedOutcome 12 g
   forward-to-no-spot c = own-refused (forward-to (spotIn i k) c) g 12 e (rw (no-direction k h))
 
--- Code 7 is a refusal's alone.
-code-7 : (x : Stop) → stopCode x ≡ 7 → x ≡ refused (stopValue x)
-code-7 x e = codes-injective x (refused (stopValue x)) e refl
+-- Its code is a refusal's alone.
+pub refusal-coded : (x : Stop) → stopCode x ≡ refusedCode → x ≡ refused (stopValue x)
+refusal-coded x e = codes-injective x (refused (stopValue x)) e refl
 
 -- A refused outcome, told.
 pub refused-told : {g : Given} {o : Outcome} (k : ℕ) → o .stop ≡ refused k → RefusedCall g o → outcomeTold o ≡ refusedTold k (sessionNumbers (g .session)) (g .log) (g .tape)
@@ -79,16 +79,16 @@ refused-told k e h = λ i. (
 
 -- The calls that wind, whatever the number.
 module _ (m : Move) (w : List ℕ) (n : ℕ) (s : HostSession) (ls ts : List ℕ) where
-  on-session : (o : Option Session) → ((se : Session) → o ≡ some se → sessionNumbers se ≡ s) → calledOn o (λ g. outcomeOf m g) w n s ls ts .0 .stop ≡ 7
+  on-session : (o : Option Session) → ((se : Session) → o ≡ some se → sessionNumbers se ≡ s) → calledOn o (λ g. outcomeOf m g) w n s ls ts .0 .stop ≡ refusedCode
       → calledOn o (λ g. outcomeOf m g) w n s ls ts ≡ refusedTold (calledOn o (λ g. outcomeOf m g) w n s ls ts .0 .value) s ls ts
   on-session none same e = refl
   on-session (some se) same e =
       let g : Given = record { table = w; n = n; session = se; log = ls; tape = ts } in
       let o : Outcome = outcomeOf m g in
-      let is-refused : o .stop ≡ refused (stopValue (o .stop)) = code-7 (o .stop) e in
+      let is-refused : o .stop ≡ refused (stopValue (o .stop)) = refusal-coded (o .stop) e in
       refused-told (stopValue (o .stop)) is-refused (refused-unchanged m g (stopValue (o .stop)) is-refused) ∙ ap (λ x. refusedTold (stopValue (o .stop)) x ls ts) (same se refl)
 
-  pub refusal-gives-back : called (λ g. outcomeOf m g) w n s ls ts .0 .stop ≡ 7
+  pub refusal-gives-back : called (λ g. outcomeOf m g) w n s ls ts .0 .stop ≡ refusedCode
       → called (λ g. outcomeOf m g) w n s ls ts ≡ refusedTold (called (λ g. outcomeOf m g) w n s ls ts .0 .value) s ls ts
   unfolding called
   refusal-gives-back e = on-session (sessionIn s) (numbers-told s) e

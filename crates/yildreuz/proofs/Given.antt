@@ -1,11 +1,13 @@
 -- The law behind the calls that wind: a call made with `madeWith`, its outcome told by `givenBack`, is the call on the session that the numbers stand for.
 use mathlib.Core.Path.{_≡_, refl, sym, ap, _∙_}
+use mathlib.Core.Bool.{Bool, true, false}
 use mathlib.Core.Option.{Option, none, some}
 use mathlib.Core.List.{List}
 use Prim.Native.Nat.{ℕ, zero, suc}
 use native.Mathlib.Omega.{arith}
-use borrow.Author.Tests.{lt-ltb}
-use Rattle.calls.specs.Session.{Session, Stop, spent, jam, far, start, logFull, tapeFull, found, answer, refused, Outcome, Given}
+use lib.Dec.{eqb}
+use borrow.Author.Tests.{lt-ltb, eqb-true}
+use Rattle.calls.specs.Session.{Session, refused, Outcome, Given}
 use Rattle.calls.specs.Held.{wellFormed, stateIn}
 use Rattle.calls.specs.Calls.{lentNumber, stateGiven, callNumber}
 use Rattle.calls.specs.Moves.{Move, outcomeOf}
@@ -13,10 +15,11 @@ use Rattle.calls.proofs.Unrefused.{call-as-lent, call-nine}
 use Rattle.calls.proofs.Answers.{move-refused, refused-unchanged}
 use Rattle.face.specs.declared.HostSession.{HostSession}
 use Rattle.face.specs.declared.HostOutcome.{HostOutcome}
-use Rattle.face.specs.Numbers.{sessionNumbers}
+use Rattle.face.specs.Numbers.{sessionNumbers, refusedCode, stopCode, stopValue}
 use Rattle.face.specs.Told.{toldWith, outcomeTold, noSessionNumber, called}
 use Rattle.yildreuz.specs.Given.{madeWith, keptSession, givenBack}
 use Rattle.face.proofs.Codes.{toward}
+use Rattle.face.proofs.Refusals.{refusal-coded}
 
 -- Node 0 holds no state, so 9 applies where 7 and 8 do not.
 at-node-0 : (g : Given) → g .session .node ≡ 0 → stateGiven g ≡ none
@@ -32,19 +35,11 @@ nowhere g e = by-lent (lentNumber (g .table) (g .n) (g .log) (g .tape)) refl
 
 -- A refused call gives back the session it was given, and so its numbers.
 given-told : (s : HostSession) (o : Outcome) → ((k : ℕ) → o .stop ≡ refused k → sessionNumbers (o .session) ≡ s) → givenBack s o ≡ outcomeTold o
-given-told s o back = ap (λ z. toldWith z o) (by-stop (o .stop) refl)
+given-told s o back = ap (λ z. toldWith z o) (by-code (eqb (stopCode (o .stop)) refusedCode) refl)
   where
-    by-stop : (x : Stop) → o .stop ≡ x → keptSession s x (sessionNumbers (o .session)) ≡ sessionNumbers (o .session)
-    by-stop spent e = refl
-    by-stop (answer i) e = refl
-    by-stop jam e = refl
-    by-stop far e = refl
-    by-stop start e = refl
-    by-stop logFull e = refl
-    by-stop tapeFull e = refl
-    by-stop found e = refl
-    by-stop Stop.none e = refl
-    by-stop (refused k) e = sym (back k e)
+    by-code : (b : Bool) → eqb (stopCode (o .stop)) refusedCode ≡ b → keptSession s (stopCode (o .stop)) (sessionNumbers (o .session)) ≡ sessionNumbers (o .session)
+    by-code true e = rw e (sym (back (stopValue (o .stop)) (refusal-coded (o .stop) (eqb-true (stopCode (o .stop)) refusedCode e))))
+    by-code false e = rw e
 
 module _ (m : Move) (w : List ℕ) (n : ℕ) (s : HostSession) (ls ts : List ℕ) where
   abbrev given : ℕ → Given

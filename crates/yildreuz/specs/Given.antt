@@ -4,7 +4,7 @@ use mathlib.Core.List.{List}
 use Prim.Native.Nat.{ℕ}
 use lib.Dec.{ltb, eqb}
 use Rattle.machine.specs.Machine.{down, up}
-use Rattle.calls.specs.Session.{Session, Stop, spent, jam, far, start, logFull, tapeFull, found, answer, refused, Outcome}
+use Rattle.calls.specs.Session.{Session, Outcome}
 use Rattle.calls.specs.Stops.{forward, back}
 use Rattle.calls.specs.Visits.{spot}
 use Rattle.calls.specs.Moves
@@ -13,7 +13,7 @@ use Rattle.yildreuz.specs.declared.Move.{Move}
 use Rattle.yildreuz.specs.declared.Move.the-variants.{Forward, Back, GoTo, BackTo, ForwardTo}
 use Rattle.face.specs.declared.HostSession.{HostSession}
 use Rattle.face.specs.declared.HostOutcome.{HostOutcome}
-use Rattle.face.specs.Numbers.{sessionNumbers}
+use Rattle.face.specs.Numbers.{sessionNumbers, refusedCode, stopCode}
 use Rattle.face.specs.Told.{toldWith}
 use Rattle.session.specs.Types.{dirMeant}
 
@@ -36,17 +36,8 @@ madeWith s = record {
 }
 
 -- what the host keeps as its session: the numbers given where the call is refused, and else those after it
-abbrev pub keptSession : HostSession → Stop → HostSession → HostSession
-keptSession given spent next = next
-keptSession given (answer i) next = next
-keptSession given jam next = next
-keptSession given far next = next
-keptSession given start next = next
-keptSession given logFull next = next
-keptSession given tapeFull next = next
-keptSession given found next = next
-keptSession given Stop.none next = next
-keptSession given (refused k) next = given
+abbrev pub keptSession : HostSession → ℕ → HostSession → HostSession
+keptSession given code next = cond (eqb code refusedCode) given next
 
 abbrev pub givenBack : HostSession → Outcome → HostOutcome × List ℕ × List ℕ
-givenBack given o = toldWith (keptSession given (o .stop) (sessionNumbers (o .session))) o
+givenBack given o = toldWith (keptSession given (stopCode (o .stop)) (sessionNumbers (o .session))) o

@@ -96,22 +96,11 @@ fn stop_value(stop: Stop) -> u32
     }
 }
 
-// A refusal gives back the numbers given: those that stand for no session too.
-fn kept_session(given: HostSession, stop: Stop, next: HostSession) -> HostSession
-    ensures { λ r. ⌜ r ≡ keptSession given (stopMeant stop) next ⌝ }
+// A refusal, whose code is 7, gives back the numbers given: those that stand for no session too.
+fn kept_session(given: HostSession, code: u32, next: HostSession) -> HostSession
+    ensures { λ r. ⌜ r ≡ keptSession given code next ⌝ }
 {
-    match stop {
-        Stop::Spent => next,
-        Stop::Answer(_) => next,
-        Stop::Jam => next,
-        Stop::Far => next,
-        Stop::Start => next,
-        Stop::LogFull => next,
-        Stop::TapeFull => next,
-        Stop::Refused(_) => given,
-        Stop::Found => next,
-        Stop::None => next,
-    }
+    if code == 7 { given } else { next }
 }
 
 // An outcome in numbers, of a call that was given these.
@@ -121,11 +110,12 @@ pub(crate) fn given_back(given: HostSession, o: Outcome) -> HostOutcome
     let stop = o.stop;
     let last = o.session;
     let next = session_numbers(last);
-    let session = kept_session(given, stop, next);
+    let code = stop_code(stop);
+    let session = kept_session(given, code, next);
     HostOutcome {
         session: session,
         steps: o.steps,
-        stop: stop_code(stop),
+        stop: code,
         value: stop_value(stop),
         value2: 0,
         peak: o.peak,
