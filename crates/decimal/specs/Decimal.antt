@@ -1,4 +1,4 @@
--- Decimal numbers: the bytes of a number's digits, the most significant first, with no zero in front.
+-- Decimal numbers: the bytes of a number's digits, the most significant first, with no zero in front; and what putting them into a slice answers and leaves.
 use mathlib.Core.Path.{_≡_}
 use mathlib.Core.List.{List, [], _∷_, _++_}
 use Prim.Native.Nat.{ℕ, zero, suc, _+_, _-_, _*_, _/_, _%_, _≤_}

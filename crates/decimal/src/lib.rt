@@ -16,7 +16,7 @@ fn put_digit(out: &mut [u8], at: usize, k: usize, digit: u32)
     }
 }
 
-// Puts the digits of a number into a slice, the first at index `at`; what is past the slice's end is left out. How many digits there are.
+// Puts the digits of a number into a slice, the first at index `at`; what is past the slice's end is left out. Answers how many digits there are.
 pub fn put(out: &mut [u8], at: usize, number: u32) -> usize
     ensures { λ r. ⌜ (r, now (out .exit)) ≡ putOf (now (out .entry)) at number ⌝ }
 {

@@ -5,11 +5,11 @@ use mathlib.Core.Option.{some, Option·none-ne-some}
 use mathlib.Core.List.{[], _∷_}
 use Prim.Native.Nat.{ℕ}
 use lib.Dec.{leb, eqb}
-use Rattle.term.specs.Table.{Table, arity, Kind, variable, abstraction, application, nothing, kindAt, Place, bodyOf, functionOf, argumentOf, nowhere, placeAt}
+use Rattle.term.specs.Table.{Table, arity, Kind, variable, abstraction, application, nothing, kindAt, isVariable, Place, bodyOf, functionOf, argumentOf, nowhere, placeAt}
 use Rattle.term.specs.Facts.{Facts}
 use Rattle.term.proofs.Choice.{passes}
 use Rattle.machine.specs.Entries.{entry, Log, ε, _▸_, howMany, bullet, held, Tape}
-use Rattle.machine.specs.Machine.{Dir, down, up, State, state, isVariable, boundAt, goDown, goUp, stepBy, step, turned, stepBack}
+use Rattle.machine.specs.Machine.{Dir, down, up, State, state, boundAt, goDown, goUp, stepBy, step, turned, stepBack}
 use Rattle.machine.proofs.Tests.{bound-at}
 use Rattle.machine.proofs.Nodes.{Placed, placed}
 use Rattle.machine.proofs.Reverse.{step-turned}

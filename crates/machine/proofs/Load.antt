@@ -15,7 +15,7 @@ use Rattle.term.specs.Table.{Table, arity, variable, kindAt}
 use Rattle.term.specs.Facts.{Facts}
 use Rattle.machine.specs.Entries.{Entry, entry, Log, ε, _▸_, howMany, _onto_, bullet, held, Tape, entryWords, logWords, tapeWords}
 use Rattle.machine.specs.Good.{EntryIn, LogIn, TapeIn}
-use Rattle.machine.specs.Slice.{slice, putOnLog, readLog, heldOn, under, putOnTape, readTape, allZero}
+use Rattle.machine.specs.Slice.{slice, putOnLog, readLog, heldOn, putOnTape, readTape, allZero}
 use Rattle.machine.proofs.Logs.{topmost-onto, rest-onto, onto-none, howMany-onto}
 use Rattle.machine.proofs.Nodes.{is-node}
 
@@ -86,12 +86,12 @@ held-all : (es : Log) (t : Tape) → heldOn (putAll (λ e u. held e ∷ u) es t)
 held-all ε t = refl
 held-all (e ▸ es) t = ap (λ M. e ▸ M) (held-all es t)
 
-under-all : (es : Log) (t : Tape) → under (howMany es) (putAll (λ e u. held e ∷ u) es t) ≡ t
+under-all : (es : Log) (t : Tape) → drop (howMany es) (putAll (λ e u. held e ∷ u) es t) ≡ t
 under-all ε t = refl
 under-all (e ▸ es) t = under-all es t
 
 module _ (T : Table) (F : Facts T) where
-  -- "A bullet is the word 0", and no variable is.
+  -- "a bullet is the word 0", and no variable is.
   tape-takes : (v : ℕ) (es : Log) (t : Tape) → kindAt T v ≡ variable → howMany es ≡ arity T v → putOnTape T v (putAll (λ e u. held e ∷ u) es t) ≡ some (held (entry v es) ∷ t)
   unfolding putOnTape
   tape-takes zero es t k m = absurd (not-suc-le-zero (is-node T F 0 variable k tt .from-one))

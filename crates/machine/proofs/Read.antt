@@ -14,7 +14,7 @@ use Rattle.term.specs.Choice.{_>>=_}
 use Rattle.term.specs.Table.{Table, arity, variable, kindAt}
 use Rattle.machine.specs.Entries.{entry, Log, ε, _▸_, howMany, topmost, rest, bullet, held, Tape, entryWords, logWords, tapeWords}
 use Rattle.machine.specs.Good.{LogIn, TapeIn}
-use Rattle.machine.specs.Slice.{slice, makesEntry, putOnLog, readLog, heldOn, under, putOnTape, readTape, allZero}
+use Rattle.machine.specs.Slice.{slice, makesEntry, putOnLog, readLog, heldOn, putOnTape, readTape, allZero}
 use Rattle.machine.proofs.Logs.{topmost-rest, howMany-topmost, topmost-in, rest-in, words-onto}
 use Rattle.machine.proofs.Tests.{entry-made}
 use Rattle.machine.proofs.Load.{reverse-apart}
@@ -65,21 +65,21 @@ module _ (T : Table) where
   held-in (bullet ∷ t) h = tt
   held-in (held e ∷ t) h = (h .0, held-in t (h .1))
 
-  under-in : (a : ℕ) (t : Tape) → TapeIn T t → TapeIn T (under a t)
+  under-in : (a : ℕ) (t : Tape) → TapeIn T t → TapeIn T (drop a t)
   under-in zero t h = h
   under-in (suc a) [] h = tt
   under-in (suc a) (bullet ∷ t) h = under-in a t h
   under-in (suc a) (held e ∷ t) h = under-in a t (h .1)
 
-  words-under : (a : ℕ) (t : Tape) → a ≤ howMany (heldOn t) → logWords (topmost a (heldOn t)) ++ tapeWords (under a t) ≡ tapeWords t
+  words-under : (a : ℕ) (t : Tape) → a ≤ howMany (heldOn t) → logWords (topmost a (heldOn t)) ++ tapeWords (drop a t) ≡ tapeWords t
   words-under zero t h = refl
   words-under (suc a) [] h = absurd (not-suc-le-zero h)
   words-under (suc a) (bullet ∷ t) h = absurd (not-suc-le-zero h)
   words-under (suc a) (held e ∷ t) h =
-      append-assoc (entryWords e) (logWords (topmost a (heldOn t))) (tapeWords (under a t)) ∙ ap (λ q. entryWords e ++ q) (words-under a t (le-of-suc-le-suc h))
+      append-assoc (entryWords e) (logWords (topmost a (heldOn t))) (tapeWords (drop a t)) ∙ ap (λ q. entryWords e ++ q) (words-under a t (le-of-suc-le-suc h))
 
   put-held : (v : ℕ) (t : Tape) (b : Bool) → (b ≡ true → (kindAt T v ≡ variable) × (arity T v ≤ howMany (heldOn t))) → TapeIn T t
-      → PutIf (TapeIn T) tapeWords v t (cond b (some (held (entry v (topmost (arity T v) (heldOn t))) ∷ under (arity T v) t)) none)
+      → PutIf (TapeIn T) tapeWords v t (cond b (some (held (entry v (topmost (arity T v) (heldOn t))) ∷ drop (arity T v) t)) none)
   put-held v t false h g = tt
   put-held v t true h g = (
     ((h refl .0, howMany-topmost (arity T v) (heldOn t) (h refl .1), topmost-in T (arity T v) (heldOn t) (held-in t g)), under-in (arity T v) t g),

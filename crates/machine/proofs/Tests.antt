@@ -4,8 +4,8 @@ use mathlib.Core.Bool.{true, and-eq-true-iff, false≢true}
 use Prim.Native.Nat.{ℕ, _≤_}
 use lib.Dec.{leb, eqb}
 use borrow.Author.Tests.{leb-true, eqb-true, eq-eqb}
-use Rattle.term.specs.Table.{Table, arity, Kind, variable, abstraction, application, nothing, kindAt}
-use Rattle.machine.specs.Machine.{isVariable, boundAt}
+use Rattle.term.specs.Table.{Table, arity, Kind, variable, abstraction, application, nothing, kindAt, isVariable}
+use Rattle.machine.specs.Machine.{boundAt}
 use Rattle.machine.specs.Slice.{makesEntry}
 
 variable-is : (k : Kind) → isVariable k ≡ true → k ≡ variable

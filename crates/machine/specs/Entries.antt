@@ -4,7 +4,7 @@ use Prim.Native.Nat.{ℕ, zero, suc}
 
 infixr 50 _▸_
 infixr 50 _onto_
--- "An entry is a variable's node number followed by as many entries as the variable's arity. A log is a list of entries."
+-- "An entry (document 003's logged position) is a variable's node number followed by as many entries as the variable's arity. A log is a list of entries."
 mutual
   pub data Entry : Type 0 where
     entry : ℕ → Log → Entry
@@ -13,7 +13,7 @@ mutual
     ε : Log
     _▸_ : Entry → Log → Log
 
--- "A tape is a list of entries and bullets."
+-- "A tape is a list of entries and bullets"
 pub data Item : Type 0 where
   bullet : Item
   held : Entry → Item
@@ -43,7 +43,7 @@ abbrev pub _onto_ : Log → Log → Log
 ε onto L = L
 (e ▸ M) onto L = e ▸ (M onto L)
 
--- The words of an entry, a log and a tape, from the top. "A bullet is the word 0."
+-- The words of an entry, a log and a tape, from the top: "a bullet is the word 0".
 abbrev mutual
   pub entryWords : Entry → List ℕ
   entryWords (entry v es) = v ∷ logWords es

@@ -6,7 +6,7 @@ use Rattle.term.specs.Facts.{IsNode}
 use Rattle.machine.specs.Entries.{Entry, entry, Log, ε, _▸_, howMany, bullet, held, Tape}
 use Rattle.machine.specs.Machine.{State}
 
--- "An entry is a variable's node number followed by as many entries as the variable's arity", down to the leaves.
+-- "An entry (document 003's logged position) is a variable's node number followed by as many entries as the variable's arity", down to the leaves.
 abbrev mutual
   pub EntryIn : Table → Entry → Type 0
   EntryIn T (entry v es) = (kindAt T v ≡ variable) × (howMany es ≡ arity T v) × LogIn T es

@@ -1,11 +1,11 @@
 -- Document 01, "The plain machine": its state, its eight rules, a step back, and where it is after p steps.
-use mathlib.Core.Bool.{Bool, true, false, _&&_, cond}
+use mathlib.Core.Bool.{Bool, _&&_, cond}
 use mathlib.Core.Option.{Option, none, some, Option·map}
 use mathlib.Core.List.{[], _∷_}
 use Prim.Native.Nat.{ℕ, zero, suc}
 use lib.Dec.{leb, eqb}
 use Rattle.term.specs.Choice.{_>>=_}
-use Rattle.term.specs.Table.{Table, arity, Kind, variable, abstraction, application, nothing, kindAt, Place, bodyOf, functionOf, argumentOf, nowhere, placeAt}
+use Rattle.term.specs.Table.{Table, arity, Kind, variable, abstraction, application, nothing, kindAt, isVariable, Place, bodyOf, functionOf, argumentOf, nowhere, placeAt}
 use Rattle.machine.specs.Entries.{entry, Log, ε, _▸_, howMany, topmost, rest, _onto_, bullet, held, Tape}
 
 -- "Its state is a node, a direction (down or up), a log and a tape."
@@ -25,13 +25,7 @@ state i d L t = record { node = i; dir = d; log = L; tape = t }
 abbrev pub startState : State
 startState = state 1 down ε []
 
--- "an entry whose variable is bound here": v is a variable, and node i its binder
-abbrev pub isVariable : Kind → Bool
-isVariable variable = true
-isVariable abstraction = false
-isVariable application = false
-isVariable nothing = false
-
+-- "an entry on top whose variable is bound here": v is a variable, and node i its binder
 abbrev pub boundAt : Table → ℕ → ℕ → Bool
 boundAt T i v = isVariable (kindAt T v) && eqb (T .left v) i
 
@@ -65,7 +59,7 @@ goUp T (functionOf p) L [] = none
 goUp T (argumentOf p) ε t = none
 goUp T nowhere L t = none
 
--- "One step, by the first line that fits; every other state has no rule." No state fits two lines.
+-- "One step, by the first line that fits; every other state has no rule". On the table of a term no state fits two lines.
 unfoldable pub stepBy : Table → ℕ → Dir → Log → Tape → Option State
 stepBy T i down L t = goDown T i (kindAt T i) L t
 stepBy T i up L t = goUp T (placeAt T i) L t

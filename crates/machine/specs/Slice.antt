@@ -3,14 +3,13 @@ use mathlib.Core.Bool.{Bool, true, _&&_, cond}
 use mathlib.Core.Option.{Option, none, some}
 use mathlib.Core.List.{List, [], _∷_, _++_, reverse}
 use Prim.Native.Nat.{ℕ, zero, suc, _-_}
-use lib.ListN.{length, replicate}
+use lib.ListN.{length, drop, replicate}
 use lib.Dec.{leb, eqb}
 use Rattle.term.specs.Choice.{_>>=_}
-use Rattle.term.specs.Table.{Table, arity, kindAt}
+use Rattle.term.specs.Table.{Table, arity, kindAt, isVariable}
 use Rattle.machine.specs.Entries.{entry, Log, ε, _▸_, howMany, topmost, rest, bullet, held, Tape}
-use Rattle.machine.specs.Machine.{isVariable}
 
--- In a slice of `room` words the top is at the high end, "the last word read comes first in the slice", and "words above the top are 0".
+-- In a slice of `room` words, "with the top at the high end: the last word read comes first in the slice. Words above the top are 0."
 unfoldable pub slice : ℕ → List ℕ → List ℕ
 slice room ws = reverse ws ++ replicate (room - length ws) 0
 
@@ -32,16 +31,10 @@ heldOn [] = ε
 heldOn (bullet ∷ t) = ε
 heldOn (held e ∷ t) = e ▸ heldOn t
 
--- a tape after its top a items have left it
-abbrev pub under : ℕ → Tape → Tape
-under zero t = t
-under (suc a) [] = []
-under (suc a) (x ∷ t) = under a t
-
 unfoldable pub putOnTape : Table → ℕ → Tape → Option Tape
 putOnTape T zero t = some (bullet ∷ t)
 putOnTape T (suc v) t =
-    cond (makesEntry T (suc v) (howMany (heldOn t))) (some (held (entry (suc v) (topmost (arity T (suc v)) (heldOn t))) ∷ under (arity T (suc v)) t)) none
+    cond (makesEntry T (suc v) (howMany (heldOn t))) (some (held (entry (suc v) (topmost (arity T (suc v)) (heldOn t))) ∷ drop (arity T (suc v)) t)) none
 
 unfoldable pub readTape : Table → List ℕ → Tape → Option Tape
 readTape T [] t = some t

@@ -1,4 +1,4 @@
--- How far the top entries of a list reach, in words: what the code walks where it moves an entry.
+-- How far the top entries of a list reach, in words: what the code walks where it moves or shows an entry.
 use mathlib.Core.List.{List, [], _∷_}
 use Prim.Native.Nat.{ℕ, zero, suc, _+_}
 use Rattle.term.specs.Table.{Table, arity}

@@ -6,9 +6,9 @@ use native.Mathlib.Omega.{arith}
 use lib.ListN.{getD}
 use Rattle.term.specs.Term.{Term, var, lam, app, size, Closed}
 use Rattle.term.specs.Table.{Table, tableIn, arity, Kind, variable, abstraction, application, nothing, kindOf, kindAt, bodyOf, functionOf, argumentOf, placeAt}
+use Rattle.term.specs.Rows.{RowsIn}
 use Rattle.term.specs.Accepted.{Accepted}
 use Rattle.term.specs.Facts.{Facts}
-use Rattle.term.specs.Walk.{RowsIn}
 use Rattle.term.proofs.Rows.{root-level, table-stands}
 use Rattle.term.proofs.Facts.{accepted-facts}
 use Rattle.term.proofs.Accepted.{term-size}

@@ -6,7 +6,7 @@ use Rattle.machine.specs.Entries as Plain
 use Rattle.machine.specs.Entries.{entry, _▸_}
 use Rattle.machine.specs.Machine as Machine
 use Rattle.machine.specs.Machine.{down, up}
-use Rattle.published.specs.Figure.{Context, ⟨·⟩, lambda, left, right, ε, _·_, held, state}
+use Rattle.published.specs.Figure.{⟨·⟩, lambda, left, right, ε, _·_, held, state}
 use Rattle.published.specs.Represents.{FromBinder, nothing-on, on-entry, Represents}
 use Rattle.published.proofs.Example.{I, D, l-x₁, l-y, l-x₂}
 

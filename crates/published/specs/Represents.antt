@@ -1,4 +1,4 @@
--- When a state of the plain machine, on the table of the term t, stands for a state of the published machine.
+-- When a state of the plain machine, on the table of the term t, stands for a state of the published machine; and the rule of document 01 that a transition is.
 use mathlib.Core.Path.{_≡_}
 use mathlib.Core.List.{[], _∷_}
 use Prim.Native.Nat.{ℕ, suc, _+_}

@@ -9,16 +9,16 @@ use lib.ListN.{length, drop, drop-of-length-le, length-drop, length-append}
 use lib.Seq.{sets-eq}
 use lib.Dec.{ltb}
 use borrow.Author.Tests.{ne-eqb, lt-ltb, le-ltb}
-use Rattle.term.specs.Term.{Term, var, lam, app, size}
+use Rattle.term.specs.Term.{Term, var, lam, app, size, isClosedUnder}
 use Rattle.term.specs.Code.{codeOf}
 use Rattle.term.proofs.Choice.{each}
+use Rattle.term.proofs.Closed.{closed-exactly}
 use Rattle.text.specs.Reading.{mostBytes, refused}
 use Rattle.text.specs.NumberGrammar.{numberText}
 use Rattle.text.specs.NumberParse.{digitsFirst, parseNumbers}
-use Rattle.text.specs.NumberReading.{isClosedUnder, closedOnly, numbersMeant, numbersNumber, readNumbersOf}
+use Rattle.text.specs.NumberReading.{closedOnly, numbersMeant, numbersNumber, readNumbersOf}
 use Rattle.text.proofs.NumberGrammar.{phrase-exactly, text-long}
 use Rattle.text.proofs.NumberParse.{numbers-exactly, one-reading}
-use Rattle.text.proofs.NumbersRead.{closed-exactly}
 use Rattle.reader.specs.Layout.{anyZero}
 use Rattle.reader.specs.Answering.{Codes, answerFor}
 use Rattle.reader.specs.Numbers.{codeUnder, Begins, NoPhrase, PhraseTo, NumbersCodedTo}

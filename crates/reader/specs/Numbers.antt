@@ -18,7 +18,7 @@ use Rattle.reader.specs.declared.Coded.the-variants.{Words, NoTerm}
 use Rattle.reader.specs.declared.grammar.Got.{Got}
 use Rattle.reader.specs.declared.grammar.Got.the-variants.{Read, Not}
 
--- The word of a number under d binders: 3 and the number, and 0 where it reaches past the outermost.
+-- The word of a number under d binders: 3 plus the number, and 0 where it reaches past the outermost.
 abbrev pub wordUnder : ℕ → ℕ → ℕ
 wordUnder d k = cond (ltb k d) (3 + k) 0
 
@@ -28,7 +28,7 @@ codeUnder (var k) d = wordUnder d k ∷ []
 codeUnder (lam b) d = 1 ∷ codeUnder b (suc d)
 codeUnder (app f a) d = 2 ∷ (codeUnder f d ++ codeUnder a d)
 
--- Bytes begin with these and then with the text of a term, and this is left, which no digit begins: a number ends where its digits do.
+-- s is `before`, then the text of t, then `left`, which no digit begins: a number ends where its digits do.
 pub record Begins (before s : List ℕ) (t : Term) (left : List ℕ) : Type 0 where
   pub spells : before ++ (numberText t ++ left) ≡ s
   pub ends : digitsFirst left ≡ []

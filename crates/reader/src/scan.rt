@@ -1,4 +1,4 @@
-// What stands where in a text: names, gaps, and the numbers 2 and 3.
+// What stands where in a text: names, gaps, digits, the word of a variable, and the numbers 2 and 3.
 ghost use mathlib.Core.Path.{_≡_};
 ghost use mathlib.Core.List.{[]};
 ghost use Prim.Native.Nat.{_+_, _-_, _≤_, _<_};
@@ -108,8 +108,8 @@ pub(crate) fn same_name(text: &[u8], a: usize, b: usize) -> bool
     true
 }
 
-// The word of the variable whose name stands at `at`: 3 and the number of binders between it and its own, which is the innermost of that
-// name; 0 where it has none.
+// The word of the variable whose name stands at `at`: 3 plus the number of binders between it and its own, which is the innermost of
+// that name; 0 where it has none.
 pub(crate) fn variable_word(text: &[u8], at: usize, scope: &[u32], depth: usize) -> u32
     requires { ⌜ (depth ≤ length (now scope)) × (length (now scope) ≤ 3000) ⌝ }
     ensures { λ r. ⌜ r ≡ variableWord (indexOf (nameAt (now (text .entry)) at) (namesAt (now (text .entry)) (take depth (now (scope .entry))) [])) ⌝ }

@@ -8,10 +8,10 @@ use native.Mathlib.Omega.{arith}
 use lib.ListN.{getD}
 use lib.Dec.{eqb}
 use borrow.Author.Tests.{eq-eqb, ne-eqb}
-use Rattle.term.specs.Table.{Table, tableIn, arity, Kind, abstraction, nothing, kindOf, kindAt, Place, bodyOf, functionOf, argumentOf, nowhere, placeUnder, placeAt}
+use Rattle.term.specs.Table.{Table, tableIn, arity, Kind, abstraction, nothing, kindOf, kindAt, isVariable, Place, bodyOf, functionOf, argumentOf, nowhere, placeUnder, placeAt}
 use Rattle.term.proofs.Facts.{accepted-facts}
 use Rattle.machine.specs.Entries.{Entry, entry, Log, ε, _▸_, howMany, held, Tape}
-use Rattle.machine.specs.Machine.{Dir, down, up, State, isVariable, boundAt, goDown, goUp, stepBy, step}
+use Rattle.machine.specs.Machine.{Dir, down, up, State, boundAt, goDown, goUp, stepBy, step}
 use Rattle.machine.proofs.Rules.{rule-1, rule-2, rule-3, rule-4, rule-5, rule-6, rule-7, rule-8}
 use Rattle.machine.proofs.Tests.{bound-at}
 use Rattle.session.specs.Types.{dirMeant}

@@ -11,8 +11,7 @@ use lib.Seq.{drop-cons, take-all}
 use lib.Dec.{eqb}
 use borrow.Author.Tests.{eq-eqb, ne-eqb, le-leb, lt-leb}
 use Rattle.term.specs.Choice.{_>>=_, ifSome}
-use Rattle.term.specs.Table.{Table, arity, kindOf}
-use Rattle.machine.specs.Machine.{isVariable}
+use Rattle.term.specs.Table.{Table, arity, kindOf, isVariable}
 use Rattle.machine.specs.Slice.{makesEntry, allZero}
 use Rattle.session.specs.Counting.{countEntry, isBullet, countWord, haveWords}
 use Rattle.session.specs.Types.{numberMeant}

@@ -11,9 +11,9 @@ use lib.Dec.{eqb}
 use borrow.Author.Tests.{eq-eqb, ne-eqb}
 use Rattle.term.specs.Term.{Term, var, lam, app, size, ClosedUnder}
 use Rattle.term.specs.Table.{Table, tableIn, Kind, variable, abstraction, application, nothing, kindOf, kindAt, bodyOf, functionOf, argumentOf, nowhere, placeUnder, placeAt}
+use Rattle.term.specs.Rows.{Row, RowsIn}
 use Rattle.term.specs.Accepted.{Accepted}
 use Rattle.term.specs.Facts.{IsNode, Stands, Below, as-body, under-body, under-function, under-argument, Bound, Facts}
-use Rattle.term.specs.Walk.{Row, RowsIn}
 use Rattle.term.proofs.Rows.{root-parent, root-level, size-positive, table-stands}
 use Rattle.term.proofs.Table.{nodes-are, row-before, kind-beyond, kind-before}
 use Rattle.term.proofs.Accepted.{term-size}
@@ -177,7 +177,6 @@ module _ (w : List ℕ) (n : ℕ) where
 
 pub accepted-facts : (w : List ℕ) (n : ℕ) → Accepted w n → Facts (tableIn w n)
 accepted-facts w n A = record {
-  node-kind = λ i h e. subst (FactsOf (tableIn w n) i) e (table-facts w n A i h);
   only-nodes = only-node w n;
   body = λ i e. kind-facts w n A i abstraction tt e;
   function = λ i e. kind-facts w n A i application tt e .0;

@@ -1,4 +1,5 @@
 pub mod Choice
+pub mod Closed
 pub mod Stores
 pub mod Rows
 pub mod Table

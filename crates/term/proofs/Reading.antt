@@ -12,8 +12,8 @@ use borrow.Author.Tests.{eq-eqb, eqb-true}
 use Rattle.term.specs.Choice.{_>>=_}
 use Rattle.term.specs.Term.{Term, var, lam, app, size, ClosedUnder}
 use Rattle.term.specs.Table.{Table, kindOf, kindAt}
+use Rattle.term.specs.Rows.{Row, RowsIn}
 use Rattle.term.specs.Accepted.{Part, part, binderIndex, partBy, partAt}
-use Rattle.term.specs.Walk.{Row, RowsIn}
 use Rattle.term.proofs.Choice.{both, each, passed, guarded, chained}
 use Rattle.term.proofs.Rows.{size-positive}
 use Rattle.term.proofs.Scope.{Falling, falling-higher, index-found, index-only}

@@ -7,8 +7,8 @@ use native.Mathlib.Omega.{arith}
 use lib.ListN.{length, getD, take, drop, length-append, length-take, length-drop}
 use lib.Seq.{getD-append-add, getD-take, getD-drop, take-add, drop-drop, take-all, length-take-le}
 use Rattle.term.specs.Term.{Term, var, lam, app, size}
-use Rattle.term.specs.Walk.{Row, RowsIn}
 use Rattle.term.specs.Table.{row, rowsOf, tableOf, Table, wordAt, tableIn}
+use Rattle.term.specs.Rows.{Row, RowsIn}
 
 -- The root of a part, as far as the part is not looked at.
 module _ (T : Table) where

@@ -6,8 +6,8 @@ use native.Mathlib.Omega.{arith}
 use lib.ListN.{length, getD, take, length-take, List·getD-eq-default}
 use lib.Seq.{getD-take, length-take-le}
 use Rattle.term.specs.Table.{wordAt, wordIn, tableIn, kindOf, nothing, kindAt}
+use Rattle.term.specs.Rows.{Row}
 use Rattle.term.specs.Accepted.{Accepted}
-use Rattle.term.specs.Walk.{Row}
 
 -- the word's place, counted from the first word of node 1
 word-place : (i k : ℕ) → 5 * (suc i - 1) + k ≡ 5 * i + k

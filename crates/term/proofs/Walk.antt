@@ -12,8 +12,9 @@ use borrow.Author.Tests.{eq-eqb, ne-eqb, le-leb}
 use Rattle.term.specs.Choice.{_>>=_}
 use Rattle.term.specs.Term.{Term, var, lam, app}
 use Rattle.term.specs.Table.{Table, tableIn}
+use Rattle.term.specs.Rows.{Row, RowsIn}
 use Rattle.term.specs.Accepted.{mostNodes, Part, part, partAt, isWhole, accepted}
-use Rattle.term.specs.Walk.{Row, RowsIn, RootIs, bindersIn, PartEnds, PartAnswer, PartWalked}
+use Rattle.term.specs.Walk.{RootIs, bindersIn, PartEnds, PartAnswer, PartWalked}
 use Rattle.term.proofs.Table.{nodes-are}
 use Rattle.term.proofs.Rows.{root-parent, root-level, root-left, root-right, root-kind}
 use Rattle.term.proofs.Choice.{passed, failed, never}

@@ -10,7 +10,7 @@ use Rattle.term.specs.Choice.{_>>=_}
 use Rattle.term.specs.Term.{Term, var, lam, app, Closed}
 use Rattle.term.specs.Table.{tableOf, Table, tableIn, Kind, variable, abstraction, application, nothing, kindAt}
 
--- "A term has n nodes, 1 to 3,000."
+-- "A term has n nodes, 1 to 3,000"
 abbrev pub mostNodes : ℕ
 mostNodes = 3000
 

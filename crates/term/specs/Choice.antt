@@ -1,4 +1,4 @@
--- What the definitions of every crate share: the first test that applies, and an option's bind.
+-- What the definitions share: the first test that applies, and choices by a test or an option.
 use mathlib.Core.Bool.{Bool, true, false}
 use mathlib.Core.Option.{Option, none, some}
 use mathlib.Core.List.{List, [], _∷_}
@@ -9,7 +9,7 @@ infixl 40 _>>=_
 pub data Test (A : Type 0) : Type 0 where
   _⇒_ : Bool → A → Test A
 
--- What the first test that applies names: document 01's "in this order", "in order of test", "by the first line that fits".
+-- What the first test that applies names: document 01's "in this order", "in order of test".
 abbrev pub first : {A : Type 0} → List (Test A) → Option A
 first [] = none
 first ((true ⇒ x) ∷ ts) = some x

@@ -3,7 +3,7 @@ use mathlib.Core.List.{List, [], _∷_, _++_}
 use Prim.Native.Nat.{ℕ, _+_}
 use Rattle.term.specs.Term.{Term, var, lam, app}
 
--- 1 for an abstraction, 2 for an application, and 3 and its index for a variable
+-- 1 for an abstraction, 2 for an application, and 3 plus its index for a variable
 unfoldable pub codeOf : Term → List ℕ
 codeOf (var x) = (3 + x) ∷ []
 codeOf (lam b) = 1 ∷ codeOf b

@@ -29,7 +29,6 @@ pub record Bound (T : Table) (i : ℕ) : Type 0 where
   pub below : Below T (T .left i) i (arity T i) index
 
 pub record Facts (T : Table) : Type 0 where
-  pub node-kind : (i : ℕ) → IsNode T i → kindAt T i ≡ nothing → ⊥
   pub only-nodes : (i : ℕ) → (kindAt T i ≡ nothing → ⊥) → IsNode T i
   pub body : (i : ℕ) → kindAt T i ≡ abstraction → Stands T (T .left i) (bodyOf i) (T .level i)
   pub function : (i : ℕ) → kindAt T i ≡ application → Stands T (T .left i) (functionOf i) (T .level i)

@@ -1,5 +1,5 @@
 -- Document 01, "The term table": a term's rows of five words, and a table as five fields of the node number.
-use mathlib.Core.Bool.{cond}
+use mathlib.Core.Bool.{Bool, true, false, cond}
 use mathlib.Core.List.{List, [], _∷_, _++_}
 use Prim.Native.Nat.{ℕ, zero, suc, _+_, _-_, _*_}
 use lib.ListN.{getD, take}
@@ -35,7 +35,7 @@ abbrev pub wordAt : List ℕ → ℕ → ℕ → ℕ
 wordAt ws zero k = 0
 wordAt ws (suc i) k = getD ws (5 * i + k) 0
 
--- The same in a slice that holds a table of n nodes: "words after the first 5 × n are ignored", so it is 0 at node 0 and above n.
+-- The same in a slice that holds a table of n nodes: "Words after the first 5 × n are ignored", so it is 0 at node 0 and above n.
 abbrev pub wordIn : List ℕ → ℕ → ℕ → ℕ → ℕ
 wordIn w n i k = wordAt (take (5 * n) w) i k
 
@@ -54,7 +54,7 @@ tableIn w n = record {
 abbrev pub arity : Table → ℕ → ℕ
 arity T i = T .level i - T .level (T .left i)
 
--- "kind: 1 variable, 2 abstraction, 3 application"; a node that is not there is nothing.
+-- "kind: 1 variable, 2 abstraction, 3 application"; any other word, as that of a node that is not there, is nothing.
 pub data Kind : Type 0 where
   variable abstraction application nothing : Kind
 
@@ -67,6 +67,12 @@ kindOf (suc (suc (suc (suc k)))) = nothing
 
 abbrev pub kindAt : Table → ℕ → Kind
 kindAt T i = kindOf (T .kind i)
+
+abbrev pub isVariable : Kind → Bool
+isVariable variable = true
+isVariable abstraction = false
+isVariable application = false
+isVariable nothing = false
 
 -- Where a node stands: it is the body, the function or the argument of its parent, or (as the root) of none.
 pub data Place : Type 0 where

@@ -1,5 +1,7 @@
--- Closed terms without names: a variable is the number of binders between it and its own, 0 for the innermost.
+-- Terms without names, and which are closed: a variable is the number of binders between it and its own, 0 for the innermost.
+use mathlib.Core.Bool.{Bool, _&&_}
 use Prim.Native.Nat.{ℕ, suc, _+_, _<_}
+use lib.Dec.{ltb}
 
 pub data Term : Type 0 where
   var : ℕ → Term
@@ -20,3 +22,9 @@ ClosedUnder d (app f a) = ClosedUnder d f × ClosedUnder d a
 
 abbrev pub Closed : Term → Type 0
 Closed t = ClosedUnder 0 t
+
+-- The same as a test (`closed-exactly`, proofs/Closed.antt): each number is below how many binders are around it.
+abbrev pub isClosedUnder : ℕ → Term → Bool
+isClosedUnder d (var x) = ltb x d
+isClosedUnder d (lam b) = isClosedUnder (suc d) b
+isClosedUnder d (app f a) = isClosedUnder d f && isClosedUnder d a

@@ -1,26 +1,13 @@
--- The rows of a term in a table, and what the code's walk over the parts of a table asks and answers.
+-- What the code's walk over the parts of a table asks and answers.
 use mathlib.Core.Path.{_≡_}
 use mathlib.Core.Option.{Option, none, some}
 use mathlib.Core.List.{List, [], _∷_}
-use Prim.Native.Nat.{ℕ, zero, suc, _+_, _-_, _≤_, _<_}
+use Prim.Native.Nat.{ℕ, zero, suc, _-_, _≤_, _<_}
 use lib.ListN.{length, getD}
-use Rattle.term.specs.Term.{Term, var, lam, app, size}
+use Rattle.term.specs.Term.{Term}
 use Rattle.term.specs.Table.{Table}
+use Rattle.term.specs.Rows.{Row}
 use Rattle.term.specs.Accepted.{mostNodes, Part, part, partAt}
-
--- The five words of node i.
-pub record Row (T : Table) (i k l r p v : ℕ) : Type 0 where
-  pub kind-is : T .kind i ≡ k
-  pub left-is : T .left i ≡ l
-  pub right-is : T .right i ≡ r
-  pub parent-is : T .parent i ≡ p
-  pub level-is : T .level i ≡ v
-
--- The rows of a term stand in a table: its root is node i with parent p and level v, and bs are the binders around it.
-abbrev pub RowsIn : Table → Term → List ℕ → ℕ → ℕ → ℕ → Type 0
-RowsIn T (var x) bs i p v = Row T i 1 (getD bs x 0) 0 p v
-RowsIn T (lam b) bs i p v = Row T i 2 (suc i) 0 p v × RowsIn T b (i ∷ bs) (suc i) i v
-RowsIn T (app f a) bs i p v = Row T i 3 (suc i) (suc i + size f) p v × RowsIn T f bs (suc i) i v × RowsIn T a bs (suc i + size f) i (suc v)
 
 -- The kind of node i where it may be the root of a part with parent p and level v, and 0 where it is not:
 -- what stands below it, and where an application's argument begins, is left open.
@@ -50,11 +37,12 @@ pub record PartEnds (last i r : ℕ) (read : ℕ → Option Part) : Type 0 where
   pub term : Term
   pub is : (d : ℕ) → suc last - i ≤ d → read d ≡ some (part term r)
 
--- The walk's answer: the node after the part whose root is node i, or 0 where there is none. It leaves the binders around as they were.
+-- The walk's answer: the node after the part whose root is node i, or 0 where there is none.
 pub record PartAnswer (last i r : ℕ) (read : ℕ → Option Part) : Type 0 where
   pub broken : r ≡ 0 → (d : ℕ) → suc last - i ≤ d → read d ≡ none
   pub ends : (r ≡ 0 → ⊥) → PartEnds last i r read
 
+-- It leaves the binders around as they were.
 pub record PartWalked (T : Table) (before after : List ℕ) (depth i p v r : ℕ) : Type 0 where
   pub answer : PartAnswer (T .nodes) i r (λ d. partAt d T (bindersIn before depth) i p v)
   pub same : bindersIn after depth ≡ bindersIn before depth

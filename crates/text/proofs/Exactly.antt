@@ -17,7 +17,7 @@ use Rattle.text.specs.Grammar.{Phrase, Tree, phraseTree, Derives}
 use Rattle.text.specs.Parse.{parse}
 use Rattle.text.specs.Binding.{nameless, ClosedIn}
 use Rattle.text.specs.Reading.{Read, mostBytes, anyForeign, meant, tooShort, readerNumber, refused, laidOut, readOf}
-use Rattle.text.specs.Exactly.{NoForeign, GoodNames, Spelled, Means, Accepts, AcceptedExactly, OneExactly, TwoExactly, ThreeExactly, FourExactly, FiveExactly, SixExactly, RefusedUnchanged}
+use Rattle.text.specs.Exactly.{NoForeign, GoodNames, WellSpelled, Means, Accepts, AcceptedExactly, OneExactly, TwoExactly, ThreeExactly, FourExactly, FiveExactly, SixExactly, RefusedReadingUnchanged}
 use Rattle.text.proofs.Parse.{parse-derives, parse-none, one-tree}
 use Rattle.text.proofs.Binding.{nameless-exactly, nameless-closed, unbound}
 
@@ -58,13 +58,13 @@ pub data Finds (text table : List ℕ) : Read → Type 0 where
   too-long : mostBytes < length text → Finds text table (refused 1 table)
   foreign-byte : length text ≤ mostBytes → (NoForeign text → ⊥) → Finds text table (refused 2 table)
   bad-name : length text ≤ mostBytes → NoForeign text → (GoodNames (tokens text) → ⊥) → Finds text table (refused 3 table)
-  no-tree : Spelled text → ((t : Tree) → Derives (tokens text) t → ⊥) → Finds text table (refused 4 table)
-  open-tree : Spelled text → (t : Tree) → Derives (tokens text) t → (ClosedIn t [] → ⊥) → Finds text table (refused 5 table)
-  no-room : Spelled text → (t : Term) → Means text t → length table < 5 * size t → Finds text table (refused 6 table)
-  a-term : Spelled text → (t : Term) → Means text t → 5 * size t ≤ length table → Finds text table (laidOut t table)
+  no-tree : WellSpelled text → ((t : Tree) → Derives (tokens text) t → ⊥) → Finds text table (refused 4 table)
+  open-tree : WellSpelled text → (t : Tree) → Derives (tokens text) t → (ClosedIn t [] → ⊥) → Finds text table (refused 5 table)
+  no-room : WellSpelled text → (t : Term) → Means text t → length table < 5 * size t → Finds text table (refused 6 table)
+  a-term : WellSpelled text → (t : Term) → Means text t → 5 * size t ≤ length table → Finds text table (laidOut t table)
 
 module _ (text table : List ℕ) where
-  spelled-by : ltb mostBytes (length text) ≡ false → anyForeign text ≡ false → anyBadName (tokens text) ≡ false → Spelled text
+  spelled-by : ltb mostBytes (length text) ≡ false → anyForeign text ≡ false → anyBadName (tokens text) ≡ false → WellSpelled text
   spelled-by ea eb ec =
       record {
         few-bytes = ltb-false mostBytes (length text) ea;
@@ -145,7 +145,7 @@ module _ (text table : List ℕ) where
   three r (no-room s t m short) = (λ e. absurd (omega arith), λ h. absurd (h .2 (s .good-names)))
   three r (a-term s t m fits) = (λ e. absurd (omega arith), λ h. absurd (h .2 (s .good-names)))
 
-  four : (r : Read) → Finds text table r → (r .refusal ≡ 4) ↔ (Spelled text × ((t : Tree) → Derives (tokens text) t → ⊥))
+  four : (r : Read) → Finds text table r → (r .refusal ≡ 4) ↔ (WellSpelled text × ((t : Tree) → Derives (tokens text) t → ⊥))
   four r (too-long long) = (λ e. absurd (omega arith), λ h. absurd (omega (arith, h .0 .few-bytes)))
   four r (foreign-byte few dirt) = (λ e. absurd (omega arith), λ h. absurd (dirt (h .0 .no-foreign)))
   four r (bad-name few clean bad) = (λ e. absurd (omega arith), λ h. absurd (bad (h .0 .good-names)))
@@ -155,7 +155,7 @@ module _ (text table : List ℕ) where
   four r (a-term s t m fits) = (λ e. absurd (omega arith), λ h. absurd (h .1 (m .tree) (m .derives)))
 
   five : (r : Read) → Finds text table r
-      → (r .refusal ≡ 5) ↔ (Spelled text × ((t : Tree) × Derives (tokens text) t × (ClosedIn t [] → ⊥)))
+      → (r .refusal ≡ 5) ↔ (WellSpelled text × ((t : Tree) × Derives (tokens text) t × (ClosedIn t [] → ⊥)))
   five r (too-long long) = (λ e. absurd (omega arith), λ h. absurd (omega (arith, h .0 .few-bytes)))
   five r (foreign-byte few dirt) = (λ e. absurd (omega arith), λ h. absurd (dirt (h .0 .no-foreign)))
   five r (bad-name few clean bad) = (λ e. absurd (omega arith), λ h. absurd (bad (h .0 .good-names)))
@@ -164,7 +164,7 @@ module _ (text table : List ℕ) where
   five r (no-room s t m short) = (λ e. absurd (omega arith), λ h. absurd (h .1 .2 (only-closed text (h .1 .0) t (h .1 .1) m)))
   five r (a-term s t m fits) = (λ e. absurd (omega arith), λ h. absurd (h .1 .2 (only-closed text (h .1 .0) t (h .1 .1) m)))
 
-  six : (r : Read) → Finds text table r → (r .refusal ≡ 6) ↔ (Spelled text × ((t : Term) × Means text t × (length table < 5 * size t)))
+  six : (r : Read) → Finds text table r → (r .refusal ≡ 6) ↔ (WellSpelled text × ((t : Term) × Means text t × (length table < 5 * size t)))
   six r (too-long long) = (λ e. absurd (omega arith), λ h. absurd (omega (arith, h .0 .few-bytes)))
   six r (foreign-byte few dirt) = (λ e. absurd (omega arith), λ h. absurd (dirt (h .0 .no-foreign)))
   six r (bad-name few clean bad) = (λ e. absurd (omega arith), λ h. absurd (bad (h .0 .good-names)))
@@ -226,7 +226,7 @@ five-exactly text table = five text table (readOf text table) (finds text table)
 pub six-exactly : SixExactly
 six-exactly text table = six text table (readOf text table) (finds text table)
 
-pub refused-reading-unchanged : RefusedUnchanged
+pub refused-reading-unchanged : RefusedReadingUnchanged
 refused-reading-unchanged text table = table-unchanged text table (readOf text table) (finds text table)
 
 pub accepted-exactly : AcceptedExactly

@@ -5,7 +5,7 @@ use Prim.Native.Nat.{ℕ, zero, suc, _+_}
 use native.Mathlib.Nat.{zero-add, add-zero, suc-add, add-suc}
 use Rattle.term.specs.Term.{Term, var, lam, app, size}
 use Rattle.term.specs.Table.{Table, tableIn}
-use Rattle.term.specs.Walk.{RowsIn}
+use Rattle.term.specs.Rows.{RowsIn}
 use Rattle.term.proofs.Rows.{table-stands}
 use Rattle.term.proofs.Accepted.{term-size}
 use Rattle.text.specs.Written.{treeOf}

@@ -4,28 +4,19 @@ use mathlib.Core.Logic.{_↔_}
 use mathlib.Core.Bool.{Bool, true, false, false≢true}
 use mathlib.Core.Option.{Option, none, some}
 use mathlib.Core.List.{List}
-use Prim.Native.Nat.{ℕ, suc, _*_, _≤_, _<_}
+use Prim.Native.Nat.{ℕ, _*_, _≤_, _<_}
 use native.Mathlib.Omega.{arith}
 use lib.ListN.{length}
 use lib.Dec.{ltb}
-use borrow.Author.Tests.{ltb-true, ltb-false, lt-ltb}
-use Rattle.term.specs.Term.{Term, var, lam, app, size, ClosedUnder, Closed}
-use Rattle.term.proofs.Choice.{both, each}
+use borrow.Author.Tests.{ltb-true, ltb-false}
+use Rattle.term.specs.Term.{Term, size, Closed, isClosedUnder}
+use Rattle.term.proofs.Closed.{closed-exactly}
 use Rattle.text.specs.Reading.{Read, mostBytes, refused, laidOut}
 use Rattle.text.specs.NumberGrammar.{Phrase}
 use Rattle.text.specs.NumberParse.{parseNumbers}
-use Rattle.text.specs.NumberReading.{isClosedUnder, numbersMeant, numbersNumber, readNumbersOf}
+use Rattle.text.specs.NumberReading.{numbersMeant, numbersNumber, readNumbersOf}
 use Rattle.text.specs.NumbersRead.{NumbersMean, NumbersAccept, NumbersAcceptedExactly, NumbersOneExactly, ThirteenExactly, FourteenExactly, NumbersSixExactly, NumbersRefusedUnchanged}
 use Rattle.text.proofs.NumberParse.{numbers-exactly, one-phrase}
-
--- The test whether a term is closed.
-pub closed-exactly : (d : ℕ) (t : Term) → (isClosedUnder d t ≡ true) ↔ ClosedUnder d t
-closed-exactly d (var k) = (ltb-true k d, lt-ltb k d)
-closed-exactly d (lam b) = closed-exactly (suc d) b
-closed-exactly d (app f a) = (
-  λ e. let h = each (isClosedUnder d f) (isClosedUnder d a) e in (closed-exactly d f .0 (h .0), closed-exactly d a .0 (h .1)),
-  λ c. both _ _ (closed-exactly d f .1 (c .0)) (closed-exactly d a .1 (c .1)),
-)
 
 -- what the reader finds, in the order of the tests, and what it then answers
 pub data Finds (text table : List ℕ) : Read → Type 0 where

@@ -14,7 +14,7 @@ use Rattle.text.specs.Bytes.{Class, letter, digit, blank, sign, foreign,
 use Rattle.text.specs.Tokens.{Name, Token, mark, name, AllInName}
 use Rattle.text.specs.Grammar.{Tree, variable, binder, apply}
 use Rattle.text.specs.Reading.{mostBytes, anyForeign, readOf}
-use Rattle.text.specs.Exactly.{GoodNames, Spelled, Means}
+use Rattle.text.specs.Exactly.{GoodNames, WellSpelled, Means}
 use Rattle.text.specs.Written.{namedTree, functionNeeds, argumentNeeds, space, enclosed, treeText, textOf}
 use Rattle.text.specs.Writing.{Write, writeOf}
 use Rattle.text.specs.ReadBack.{ReadBack, OneTable}
@@ -72,7 +72,7 @@ tree-good (apply f a) g =
     (enclosed-good (functionNeeds f) (treeTokens f) (tree-good f (g .0)))
     (enclosed-good (argumentNeeds a) (treeTokens a) (tree-good a (g .1)))
 
-pub text-spelled : (t : Term) → Closed t → size t ≤ mostNodes → length (textOf t) ≤ mostBytes → Spelled (textOf t)
+pub text-spelled : (t : Term) → Closed t → size t ≤ mostNodes → length (textOf t) ≤ mostBytes → WellSpelled (textOf t)
 unfolding textOf
 text-spelled t closed few short = record {
   few-bytes = short;

@@ -44,7 +44,7 @@ Form (apply f a) around (var k) = ⊥
 Form (apply f a) around (lam b) = ⊥
 Form (apply f a) around (app g b) = Form f around g × Form a around b
 
--- "a name without a binder", in words: every name stands among the binders around it.
+-- Number 5, "a name without a binder", does not apply: every name stands among the binders around it.
 pub data Among (x : Name) : List Name → Type 0 where
   here : {around : List Name} → Among x (x ∷ around)
   there : {y : Name} {around : List Name} → Among x around → Among x (y ∷ around)

@@ -22,7 +22,7 @@ opening = 40
 abbrev pub closing : ℕ
 closing = 41
 
--- "a letter a to z, digit, `\`, `.`, round bracket, space or line feed"; every other byte is foreign
+-- A foreign byte is one that number 2 refuses: "a byte that is no letter a to z, digit, `\`, `.`, round bracket, space or line feed".
 unfoldable pub classOf : ℕ → Class
 classOf b =
     Option·getD

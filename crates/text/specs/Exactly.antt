@@ -25,7 +25,7 @@ GoodNames (mark b ∷ ts) = GoodNames ts
 GoodNames (name x ∷ ts) = (length x ≤ 8) × (startsWithDigit x ≡ false) × GoodNames ts
 
 -- numbers 1 to 3 do not apply
-pub record Spelled (text : List ℕ) : Type 0 where
+pub record WellSpelled (text : List ℕ) : Type 0 where
   pub few-bytes : length text ≤ mostBytes
   pub no-foreign : NoForeign text
   pub good-names : GoodNames (tokens text)
@@ -37,9 +37,9 @@ pub record Means (text : List ℕ) (t : Term) : Type 0 where
   pub closed : ClosedIn tree []
   pub form : Form tree [] t
 
--- n and these words
+-- The reader answers n and leaves these words.
 pub record Accepts (text table : List ℕ) (n : ℕ) (words : List ℕ) : Type 0 where
-  pub well-spelled : Spelled text
+  pub well-spelled : WellSpelled text
   pub term : Term
   pub means : Means text term
   pub n-is : n ≡ size term
@@ -64,17 +64,17 @@ ThreeExactly =
 
 -- number 4: nothing is derived
 abbrev pub FourExactly : Type 0
-FourExactly = (text table : List ℕ) → (readOf text table .refusal ≡ 4) ↔ (Spelled text × ((t : Tree) → Derives (tokens text) t → ⊥))
+FourExactly = (text table : List ℕ) → (readOf text table .refusal ≡ 4) ↔ (WellSpelled text × ((t : Tree) → Derives (tokens text) t → ⊥))
 
 -- number 5: the derived tree is not closed
 abbrev pub FiveExactly : Type 0
-FiveExactly = (text table : List ℕ) → (readOf text table .refusal ≡ 5) ↔ (Spelled text × ((t : Tree) × Derives (tokens text) t × (ClosedIn t [] → ⊥)))
+FiveExactly = (text table : List ℕ) → (readOf text table .refusal ≡ 5) ↔ (WellSpelled text × ((t : Tree) × Derives (tokens text) t × (ClosedIn t [] → ⊥)))
 
 -- number 6: the slice is too short for the term's table
 abbrev pub SixExactly : Type 0
-SixExactly = (text table : List ℕ) → (readOf text table .refusal ≡ 6) ↔ (Spelled text × ((t : Term) × Means text t × (length table < 5 * size t)))
+SixExactly = (text table : List ℕ) → (readOf text table .refusal ≡ 6) ↔ (WellSpelled text × ((t : Term) × Means text t × (length table < 5 * size t)))
 
 -- "A refused reader answers n as 0", and no lent word differs.
-abbrev pub RefusedUnchanged : Type 0
-RefusedUnchanged =
+abbrev pub RefusedReadingUnchanged : Type 0
+RefusedReadingUnchanged =
     (text table : List ℕ) → (readOf text table .refusal ≡ 0 → ⊥) → (readOf text table .n ≡ 0) × (readOf text table .table ≡ table)

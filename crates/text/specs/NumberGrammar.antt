@@ -1,5 +1,5 @@
--- Document 02, change 7, the number dialect: its grammar, a case for each phrase, and the text of a term. `phrase-exactly` and `one-phrase`
--- (proofs/NumberGrammar.antt): a text is a phrase of a term exactly where it is that term's text, and of no other term.
+-- Document 02, change 7, the number dialect: its grammar, a case for each phrase, and the text of a term. A text is a phrase of a term exactly
+-- where it is that term's text (`phrase-exactly`, proofs/NumberGrammar.antt), and of no other term (`one-phrase`, proofs/NumberParse.antt).
 use mathlib.Core.Path.{_≡_}
 use mathlib.Core.Logic.{_↔_}
 use mathlib.Core.List.{List, _∷_, _++_}
@@ -15,7 +15,7 @@ atSign = 64
 
 -- These bytes are a phrase of the dialect, and this is its term. A part is each `\`, each `@` and each number: "one space before each part but the first".
 pub data Phrase : List ℕ → Term → Type 0 where
-  -- "a variable as a decimal number, 0 for the innermost binder"; "leading zeros aren't allowed"; a number of any length is the number it is
+  -- "a variable as a decimal number, 0 for the innermost binder"; "Leading zeros aren't allowed." A number of any length is the number it is
   number : (s : List ℕ) (k : ℕ) → IsDecimal s k → Phrase s (var k)
   -- "`\` before a body"
   abstraction : (s : List ℕ) (b : Term) → Phrase s b → Phrase (lambda ∷ space ∷ s) (lam b)

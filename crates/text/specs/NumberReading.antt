@@ -1,20 +1,14 @@
 -- What a call of the reader of the number dialect answers, and what it leaves in the table slice: numbers 1, 13, 14 and 6 and the table (document 02, change 7).
-use mathlib.Core.Bool.{Bool, _&&_, cond}
+use mathlib.Core.Bool.{cond}
 use mathlib.Core.Option.{Option, none, some}
 use mathlib.Core.List.{List, [], _∷_}
-use Prim.Native.Nat.{ℕ, suc}
+use Prim.Native.Nat.{ℕ}
 use lib.ListN.{length}
 use lib.Dec.{ltb}
 use Rattle.term.specs.Choice.{_⇒_, first, _>>=_, isNone}
-use Rattle.term.specs.Term.{Term, var, lam, app}
+use Rattle.term.specs.Term.{Term, isClosedUnder}
 use Rattle.text.specs.Reading.{Read, mostBytes, tooShort, answer}
 use Rattle.text.specs.NumberParse.{parseNumbers}
-
--- each number is below that of the binders around it
-abbrev pub isClosedUnder : ℕ → Term → Bool
-isClosedUnder d (var k) = ltb k d
-isClosedUnder d (lam b) = isClosedUnder (suc d) b
-isClosedUnder d (app f a) = isClosedUnder d f && isClosedUnder d a
 
 -- a term, if none of its numbers reaches past the outermost binder
 abbrev pub closedOnly : Term → Option Term

@@ -16,7 +16,7 @@ pub record NumbersMean (text : List ℕ) (t : Term) : Type 0 where
   pub phrase : Phrase text t
   pub closed : Closed t
 
--- n and these words
+-- The reader answers n and leaves these words.
 pub record NumbersAccept (text table : List ℕ) (n : ℕ) (words : List ℕ) : Type 0 where
   pub term : Term
   pub means : NumbersMean text term

@@ -58,6 +58,7 @@ refused k table = record { n = 0; refusal = k; table = table }
 abbrev pub laidOut : Term → List ℕ → Read
 laidOut t table = record { n = size t; refusal = 0; table = tableOf t ++ drop (5 * size t) table }
 
+-- The last case does not come: a text that means no term has a number.
 abbrev pub answer : Option ℕ → Option Term → List ℕ → Read
 answer (some k) o table = refused k table
 answer none (some t) table = laidOut t table

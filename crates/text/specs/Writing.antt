@@ -1,4 +1,4 @@
--- What a call of the writer answers, and what it leaves in the lent bytes: numbers 7 and 11 and the text (document 02, change 3).
+-- What a call of either writer answers, and what it leaves in the lent bytes: numbers 7 and 11 and the text (document 02, changes 3 and 7).
 use mathlib.Core.Bool.{Bool, not, _||_}
 use mathlib.Core.Option.{Option, none, some}
 use mathlib.Core.List.{List, [], _∷_, _++_}

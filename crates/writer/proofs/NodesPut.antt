@@ -10,15 +10,15 @@ use lib.Dec.{eqb}
 use borrow.Author.Tests.{eqb-true, eqb-false}
 use Rattle.term.specs.Term.{Term}
 use Rattle.term.specs.Table.{Table, tableIn}
+use Rattle.term.specs.Rows.{RowsIn}
 use Rattle.term.specs.Accepted.{Accepted}
-use Rattle.term.specs.Walk.{RowsIn}
 use Rattle.term.proofs.Rows.{table-stands}
 use Rattle.term.proofs.Accepted.{term-size}
 use Rattle.text.specs.Written.{space}
 use Rattle.text.specs.NumberGrammar.{numberText}
 use Rattle.text.proofs.NumberGrammar.{numbers-short}
 use Rattle.writer.specs.Putting.{longestText, Put}
-use Rattle.writer.specs.NumberParts.{depthUnder, nodePart, depthIn, DepthRoom, PartRoom}
+use Rattle.writer.specs.NumberParts.{depthUnder, nodePart, depthIn, DepthRoom, NodeRoom}
 use Rattle.writer.proofs.Putting.{put-then}
 use Rattle.writer.proofs.PartList.{partsOf, textTo, text-first, text-more, text-all, text-within}
 use Rattle.writer.proofs.NumberParts.{parent-before, NodeIs, nodes-are}
@@ -88,7 +88,7 @@ module _ (w : List ℕ) (n : ℕ) (A : Accepted w n) where
     first-text : nodePart T (depthIn ds) 1 ≡ textTo t 1
     first-text = sym (text-first t ∙ first-is .part-is)
 
-    pub first-room : PartRoom T 1 ds 0
+    pub first-room : NodeRoom T 1 ds 0
     first-room = record {
       there = omega arith;
       binder-there = λ z. omega (arith, first-is .binder-earlier z);
@@ -158,7 +158,7 @@ module _ (w : List ℕ) (n : ℕ) (A : Accepted w n) where
       long : length (textTo t k) + (1 + length (nodePart T (depthIn ds) (k + 1))) ≤ longestText
       long = omega (arith, ap length next-text, length-append (textTo t k) (space ∷ nodePart T (depthIn ds) (k + 1)), text-room (k + 1) (omega arith) (omega arith))
 
-      pub next-room : PartRoom T (k + 1) ds q
+      pub next-room : NodeRoom T (k + 1) ds q
       next-room = record {
         there = omega (arith, A .few-nodes);
         binder-there = λ z. omega (arith, next-is .binder-earlier z, A .few-nodes);

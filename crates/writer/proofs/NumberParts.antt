@@ -11,7 +11,7 @@ use borrow.Author.Tests.{ne-eqb, ltb-true, ltb-false}
 use Rattle.decimal.specs.Decimal.{decimal}
 use Rattle.term.specs.Term.{Term, var, lam, app, size, ClosedUnder}
 use Rattle.term.specs.Table.{Table}
-use Rattle.term.specs.Walk.{RowsIn}
+use Rattle.term.specs.Rows.{RowsIn}
 use Rattle.term.proofs.Rows.{root-parent}
 use Rattle.term.proofs.Scope.{Falling, falling-higher, binder-before}
 use Rattle.text.specs.Bytes.{lambda}

@@ -9,7 +9,7 @@ use lib.ListN.{length, length-append}
 use lib.Dec.{eqb}
 use Rattle.term.specs.Term.{Term, var, lam, app, size}
 use Rattle.term.specs.Table.{Table, tableIn}
-use Rattle.term.specs.Walk.{RowsIn}
+use Rattle.term.specs.Rows.{RowsIn}
 use Rattle.term.proofs.Rows.{size-positive}
 use Rattle.text.specs.Bytes.{lambda, dot, opening, closing}
 use Rattle.text.specs.Written.{nodeName, treeOf, functionNeeds, argumentNeeds, space, enclosed, treeText}

@@ -24,13 +24,13 @@ nodePart T D i = cond (eqb (T .kind i) 1) (decimal (D i - D (T .left i) - 1)) (c
 abbrev pub depthIn : List ℕ → ℕ → ℕ
 depthIn ds i = getD ds i 0
 
--- The parent's depth is there, and one more is a number.
+-- The parent's depth is there, and one more is a word.
 pub record DepthRoom (T : Table) (i : ℕ) (ds : List ℕ) : Type 0 where
   pub parent-there : T .parent i ≤ mostNodes
   pub few : depthIn ds (T .parent i) ≤ mostNodes
 
--- The depths of a node and of its binder are there, the binder is around it, and the part ends within what is counted.
-pub record PartRoom (T : Table) (i : ℕ) (ds : List ℕ) (at : ℕ) : Type 0 where
+-- The depths of a node and of its binder are there, the binder is around it, and the part ends within `longestText`.
+pub record NodeRoom (T : Table) (i : ℕ) (ds : List ℕ) (at : ℕ) : Type 0 where
   pub there : i ≤ mostNodes
   pub binder-there : T .kind i ≡ 1 → T .left i ≤ mostNodes
   pub binder-around : T .kind i ≡ 1 → depthIn ds (T .left i) < depthIn ds i

@@ -7,8 +7,8 @@ use lib.ListN.{length}
 use lib.Seq.{sets}
 use Rattle.term.specs.Term.{Term, size}
 use Rattle.term.specs.Table.{tableIn}
+use Rattle.term.specs.Rows.{RowsIn}
 use Rattle.term.specs.Accepted.{Accepted}
-use Rattle.term.specs.Walk.{RowsIn}
 use Rattle.text.specs.Bytes.{lambda, dot}
 use Rattle.text.specs.Written.{nodeName, treeOf, enclosed, treeText}
 use Rattle.text.specs.Dialects.{Dialect, textIn}
@@ -37,7 +37,7 @@ pub record Stood (w : List ℕ) (n i : ℕ) (t : Term) (bs : List ℕ) : Type 0 
 abbrev pub textAt : Term → List ℕ → ℕ → List ℕ
 textAt t bs i = treeText (treeOf t bs i)
 
--- The same, and its text, from index `at` on and in brackets or not, ends within what is counted.
+-- The same, and its text, from index `at` on and in brackets or not, ends within `longestText`.
 pub record Puttable (w : List ℕ) (n i : ℕ) (b : Bool) (at : ℕ) (t : Term) (bs : List ℕ) : Type 0 where
   pub stood : Stood w n i t bs
   pub short : at + length (enclosed b (textAt t bs i)) ≤ longestText

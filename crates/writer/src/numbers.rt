@@ -5,7 +5,7 @@ ghost use Rattle.term.specs.Table.{tableIn};
 ghost use Rattle.term.specs.Accepted.{Accepted};
 ghost use Rattle.text.specs.Dialects.{numbers};
 ghost use Rattle.writer.specs.Putting.{Put, TextPut};
-ghost use Rattle.writer.specs.NumberParts.{depthUnder, nodePart, depthIn, DepthRoom, PartRoom};
+ghost use Rattle.writer.specs.NumberParts.{depthUnder, nodePart, depthIn, DepthRoom, NodeRoom};
 use crate::put::put_byte;
 
 // How many binders are around a node, from how many are around its parent. Depths are told by node.
@@ -31,8 +31,9 @@ fn put_node(
     out: &mut [u8],
     at: usize,
 ) -> usize
-    requires { ⌜ PartRoom (tableIn (now table) n) node (now depths) at ⌝ }
-    ensures { λ r. ⌜ Put (now (out .entry)) at (nodePart (tableIn (now (table .entry)) n) (depthIn (now (depths .entry))) node) r (now (out .exit)) ⌝ }
+    requires { ⌜ NodeRoom (tableIn (now table) n) node (now depths) at ⌝ }
+    ensures { λ r. ⌜ Put (now (out .entry)) at (nodePart (tableIn (now (table .entry)) n) (depthIn (now (depths .entry))) node)
+        r (now (out .exit)) ⌝ }
 {
     let kind = term::kind(table, n, node);
     if kind == 1 {

@@ -4,7 +4,7 @@ use mathlib.Core.Path.{_≡_, sym, _∙_}
 use borrow.Author.Needs.{needs}
 use native.Mathlib.Omega.{arith}
 use Rattle.term.specs.Table.{tableIn}
-use Rattle.term.specs.Walk.{Row}
+use Rattle.term.specs.Rows.{Row}
 use Rattle.term.proofs.Table.{nodes-are, row-beyond}
 use Rattle.term.proofs.Walk.{wrong-parent, wrong-level, wrong-kind, wrong-left, wrong-right, is-application, is-abstraction, is-variable}
 use Rattle.term.proofs.root.Statement.{statement}
