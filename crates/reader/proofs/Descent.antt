@@ -12,7 +12,8 @@ use Rattle.term.proofs.Stores.{run-on}
 use Rattle.text.specs.Bytes.{lambda, dot, opening, closing}
 use Rattle.text.specs.Tokens.{Name, Token}
 use Rattle.text.specs.Grammar.{Phrase, abstraction, atoms, Atoms, no-more, _and_, named, bracketed}
-use Rattle.text.specs.Parse.{parsed, afterMark, nameFirst, startsAtom}
+use Rattle.text.specs.Parsed.{parsed}
+use Rattle.text.specs.Parse.{afterMark, nameFirst, startsAtom}
 use Rattle.text.specs.Binding.{indexOf}
 use Rattle.reader.specs.Scanning.{nameAt, variableWord, treeCode}
 use Rattle.reader.specs.Answers.{phraseFrom, atomsFrom, atomFrom, abstractionFrom, applicationFrom, bracketedFrom, phraseCode, atomCode, atomsCode, Cursor, cursor, tokensFrom, namesAround, atomCount, ReadTo, CodeAnswer, Marked, MarkTo, NameTo}

@@ -10,7 +10,8 @@ use lib.ListN.{length, drop, drop-of-length-le, length-drop}
 use lib.Seq.{sets, sets-eq}
 use Rattle.text.specs.Tokens.{tokens}
 use Rattle.text.specs.Grammar.{phraseTree}
-use Rattle.text.specs.Parse.{isEmpty, parse}
+use Rattle.text.specs.Parsed.{isEmpty}
+use Rattle.text.specs.Parse.{parse}
 use Rattle.reader.specs.Scanning.{gapRun, namesAt, treeCode}
 use Rattle.reader.specs.Answers.{cursor, ReadTo, phraseFrom, phraseCode}
 use Rattle.reader.specs.Steps.{CodedTo}

@@ -13,8 +13,7 @@ use Rattle.decimal.specs.Decimal.{decimal, valueAfter}
 use Rattle.decimal.proofs.Decimal.{decimal-is, decimal-only}
 use Rattle.term.specs.Term.{Term, var, lam, app}
 use Rattle.term.proofs.Stores.{run-on}
-use Rattle.text.specs.Bytes.{lambda}
-use Rattle.text.specs.Written.{space}
+use Rattle.text.specs.Bytes.{lambda, space}
 use Rattle.text.specs.NumberGrammar.{atSign, numberText}
 use Rattle.text.specs.NumberParse.{afterByte, digitsFirst, isNumber}
 use Rattle.text.proofs.NumberParse.{digits-are, digits-then, digits-end, digits-found, space-ends, number-test, number-only, no-sign, one-reading}

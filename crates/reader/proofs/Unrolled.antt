@@ -11,7 +11,8 @@ use Rattle.term.specs.Choice.{_>>=_, choose, ifSome}
 use Rattle.text.specs.Bytes.{lambda, dot, opening}
 use Rattle.text.specs.Tokens.{Token, mark, name}
 use Rattle.text.specs.Grammar.{Phrase, atoms, Atoms, no-more, _and_, Atom, named, atomTokens}
-use Rattle.text.specs.Parse.{Parsed, parsed, afterMark, nameFirst, startsAtom, phraseAt, atomsAt, atomAt}
+use Rattle.text.specs.Parsed.{Parsed, parsed}
+use Rattle.text.specs.Parse.{afterMark, nameFirst, startsAtom, phraseAt, atomsAt, atomAt}
 use Rattle.reader.specs.Answers.{phraseFrom, atomsFrom, atomFrom, abstractionFrom, applicationFrom, moreFrom, bracketedFrom}
 use Rattle.text.proofs.Each.{Each, bind-same, bind-steady, bind-ap, if-same, choose-same}
 use Rattle.text.proofs.Spelt.{Spelt, nameTokens, after-spelt, name-spelt, atom-spelt, atom-shorter}
@@ -87,22 +88,22 @@ no-atom [] e = atom-from []
 no-atom (mark c ∷ ts) e = atom-from (mark c ∷ ts) ∙ rw e
 no-atom (name x ∷ ts) e = absurd (false≢true (sym e))
 
-abbrev pub asPhrase : Parsed Atoms → Option (Parsed Phrase)
+abbrev pub asPhrase : Parsed Atoms Token → Option (Parsed Phrase Token)
 asPhrase p = byAtoms (p .value)
   where
-    byAtoms : Atoms → Option (Parsed Phrase)
+    byAtoms : Atoms → Option (Parsed Phrase Token)
     byAtoms no-more = none
     byAtoms (b and bs) = some (parsed (atoms b bs) (p .left))
 
 application-more : (ts : List Token) → applicationFrom ts ≡ (moreFrom ts >>= asPhrase)
 application-more ts = by-atom (atomFrom ts)
   where
-    by-atoms : (b : Atom) (o : Option (Parsed Atoms))
+    by-atoms : (b : Atom) (o : Option (Parsed Atoms Token))
         → (o >>= λ bs. some (parsed (atoms b (bs .value)) (bs .left))) ≡ ((o >>= λ bs. some (parsed (b and bs .value) (bs .left))) >>= asPhrase)
     by-atoms b none = refl
     by-atoms b (some bs) = refl
 
-    by-atom : (o : Option (Parsed Atom))
+    by-atom : (o : Option (Parsed Atom Token))
         → (o >>= λ a. atomsFrom (a .left) >>= λ bs. some (parsed (atoms (a .value) (bs .value)) (bs .left)))
         ≡ ((o >>= λ b. atomsFrom (b .left) >>= λ bs. some (parsed (b .value and bs .value) (bs .left))) >>= asPhrase)
     by-atom none = refl

@@ -9,7 +9,8 @@ use Rattle.term.specs.Choice.{_>>=_}
 use Rattle.text.specs.Bytes.{dot, closing}
 use Rattle.text.specs.Tokens.{Name, Token, tokens}
 use Rattle.text.specs.Grammar.{Phrase, abstraction, atoms, Atoms, no-more, _and_, Atom, bracketed, phraseTree, atomTree}
-use Rattle.text.specs.Parse.{Parsed, parsed, afterMark, nameFirst, phraseAt, atomsAt, atomAt}
+use Rattle.text.specs.Parsed.{Parsed, parsed}
+use Rattle.text.specs.Parse.{afterMark, nameFirst, phraseAt, atomsAt, atomAt}
 use Rattle.reader.specs.Scanning.{nameAt, namesAt, treeCode}
 use Rattle.reader.specs.declared.token.After.{After}
 use Rattle.reader.specs.declared.token.After.the-variants.{Mark, NoMark}
@@ -19,27 +20,27 @@ use Rattle.reader.specs.declared.grammar.Got.{Got}
 use Rattle.reader.specs.declared.grammar.Got.the-variants.{Read, Not}
 
 -- The readings of tokens as deep as they need.
-unfoldable pub phraseFrom : List Token → Option (Parsed Phrase)
+unfoldable pub phraseFrom : List Token → Option (Parsed Phrase Token)
 phraseFrom ts = phraseAt (3 * length ts + 3) ts
 
-unfoldable pub atomsFrom : List Token → Option (Parsed Atoms)
+unfoldable pub atomsFrom : List Token → Option (Parsed Atoms Token)
 atomsFrom ts = atomsAt (3 * length ts + 2) ts
 
-unfoldable pub atomFrom : List Token → Option (Parsed Atom)
+unfoldable pub atomFrom : List Token → Option (Parsed Atom Token)
 atomFrom ts = atomAt (3 * length ts + 1) ts
 
 -- a term that is an abstraction, after its `\`; a term that is atoms; atoms after the first where one begins; a term in brackets, after the opening one
-abbrev pub abstractionFrom : List Token → Option (Parsed Phrase)
+abbrev pub abstractionFrom : List Token → Option (Parsed Phrase Token)
 abstractionFrom ts =
     nameFirst ts >>= λ x. afterMark dot (x .left) >>= λ us. phraseFrom us >>= λ p. some (parsed (abstraction (x .value) (p .value)) (p .left))
 
-abbrev pub applicationFrom : List Token → Option (Parsed Phrase)
+abbrev pub applicationFrom : List Token → Option (Parsed Phrase Token)
 applicationFrom ts = atomFrom ts >>= λ a. atomsFrom (a .left) >>= λ bs. some (parsed (atoms (a .value) (bs .value)) (bs .left))
 
-abbrev pub moreFrom : List Token → Option (Parsed Atoms)
+abbrev pub moreFrom : List Token → Option (Parsed Atoms Token)
 moreFrom ts = atomFrom ts >>= λ b. atomsFrom (b .left) >>= λ bs. some (parsed (b .value and bs .value) (bs .left))
 
-abbrev pub bracketedFrom : List Token → Option (Parsed Atom)
+abbrev pub bracketedFrom : List Token → Option (Parsed Atom Token)
 bracketedFrom ts = phraseFrom ts >>= λ p. afterMark closing (p .left) >>= λ us. some (parsed (bracketed (p .value)) us)
 
 -- The code of what is read, among the names around it; atoms after the first have theirs in a row.
@@ -86,7 +87,7 @@ pub record CodeRoom (w : Cursor) : Type 0 where
   pub few : length (w .scope) ≤ 3000
 
 -- Something was read up to p, and its code stands in front of word m, with room for `more` words to be put before it. The names around are as they were.
-pub record ReadTo {A : Type 0} (from : List Token → Option (Parsed A)) (code : A → List Name → List ℕ) (w : Cursor) (p m more : ℕ) (scope′ out′ : List ℕ) : Type 0 where
+pub record ReadTo {A : Type 0} (from : List Token → Option (Parsed A Token)) (code : A → List Name → List ℕ) (w : Cursor) (p m more : ℕ) (scope′ out′ : List ℕ) : Type 0 where
   pub value : A
   pub is : from (tokensFrom (w .text) (w .at)) ≡ some (parsed value (tokensFrom (w .text) p))
   pub on : w .at ≤ p
@@ -96,7 +97,7 @@ pub record ReadTo {A : Type 0} (from : List Token → Option (Parsed A)) (code :
   pub wrote : out′ ≡ sets (w .out) (w .node) (code value (namesAround w))
   pub kept : take (w .depth) scope′ ≡ take (w .depth) (w .scope)
 
-abbrev pub CodeAnswer : {A : Type 0} → (List Token → Option (Parsed A)) → (A → List Name → List ℕ) → Cursor → Got → List ℕ → List ℕ → Type 0
+abbrev pub CodeAnswer : {A : Type 0} → (List Token → Option (Parsed A Token)) → (A → List Name → List ℕ) → Cursor → Got → List ℕ → List ℕ → Type 0
 CodeAnswer from code w (Read p m) scope′ out′ = ReadTo from code w p m 1 scope′ out′
 CodeAnswer from code w Not scope′ out′ = from (tokensFrom (w .text) (w .at)) ≡ none
 

@@ -5,7 +5,7 @@ ghost use mathlib.Core.List.{[], _∷_};
 ghost use Prim.Native.Nat.{_-_, _≤_};
 ghost use lib.ListN.{length, take, drop};
 ghost use Rattle.decimal.specs.Decimal.{valueAfter};
-ghost use Rattle.text.specs.Written.{space};
+ghost use Rattle.text.specs.Bytes.{space};
 ghost use Rattle.text.specs.NumberParse.{isNumber};
 ghost use Rattle.reader.specs.Numbers.{wordUnder, PhraseRoom, PhraseRead, NumberRead};
 use crate::bytes::byte;

@@ -19,7 +19,7 @@ use Rattle.text.specs.Dialects.{Dialect, readIn, MeantIn, textIn, writeI
 use Rattle.text.specs.Converting.{Converts, ConvertedExactly, SourceFirst, LastEleven, NoTableNumber, RefusedUnconverted}
 use Rattle.text.proofs.Accepted.{laidAccepted}
 use Rattle.text.proofs.Writing.{TooLong, too-long, fitted, not-both, by-text}
-use Rattle.text.proofs.Dialects.{laid, OfText, Sees, refuses, means, sees, one-meant, closed-meant, few-meant, reads-meant}
+use Rattle.text.proofs.Dialects.{write-in, laid, OfText, Sees, refuses, means, sees, one-meant, closed-meant, few-meant, reads-meant}
 
 -- what is written of a term's text, by its length alone
 abbrev pub byLength : List ℕ → List ℕ → Write
@@ -28,7 +28,9 @@ byLength s out = answer (first ((unfit s out ⇒ 11) ∷ [])) s out
 -- The table that was laid out for a term is written as its text.
 pub laid-written : (e : Dialect) (t : Term) → Closed t → size t ≤ mostNodes → (table out : List ℕ)
     → writeIn e (laidOut t table .table) (laidOut t table .n) out ≡ byLength (textIn e t) out
-laid-written e t c few table out = by-text (textIn e) (tableOf t ++ drop (5 * size t) table) (size t) out (laidAccepted t c few (drop (5 * size t) table))
+laid-written e t c few table out =
+    write-in e (tableOf t ++ drop (5 * size t) table) (size t) out
+    ∙ by-text (textIn e) (tableOf t ++ drop (5 * size t) table) (size t) out (laidAccepted t c few (drop (5 * size t) table))
 
 -- Every text's table has room in the conversion's own.
 own-length : length ownTable ≡ 5 * mostNodes

@@ -12,17 +12,23 @@ use Rattle.term.specs.Term.{Term, size, Closed}
 use Rattle.term.specs.Table.{tableOf}
 use Rattle.term.specs.Accepted.{mostNodes}
 use Rattle.text.specs.Reading.{Read, mostBytes, refused, laidOut, readOf}
+use Rattle.text.specs.Writing.{writing}
 use Rattle.text.specs.NumberReading.{readNumbersOf}
-use Rattle.text.specs.Dialects.{Dialect, names, numbers, readIn, MeantIn, textIn}
+use Rattle.text.specs.Dialects.{Dialect, names, numbers, readIn, MeantIn, textIn, writeIn}
 use Rattle.text.proofs.Exactly as ByNames
 use Rattle.text.proofs.Exactly.{one-meaning, meant-closed, refused-reading-unchanged, accepted-exactly, one-exactly, two-exactly, three-exactly, four-exactly, five-exactly, six-exactly}
 use Rattle.text.proofs.Accepted.{means-few}
 use Rattle.text.proofs.Names.{text-means}
-use Rattle.text.proofs.ReadBack.{text-spelled}
+use Rattle.text.proofs.WellSpelled.{text-spelled}
 use Rattle.text.proofs.NumberGrammar.{phrase-exactly, text-phrase, text-long}
 use Rattle.text.proofs.NumberParse.{one-phrase}
 use Rattle.text.proofs.NumbersRead as ByNumbers
 use Rattle.text.proofs.NumbersRead.{numbers-one-exactly, thirteen-exactly, fourteen-exactly, numbers-six-exactly, numbers-refused-unchanged, numbers-accepted-exactly}
+
+-- A table is written by the text of its term.
+pub write-in : (d : Dialect) (w : List ℕ) (n : ℕ) (text : List ℕ) → writeIn d w n text ≡ writing (textIn d) w n text
+write-in names w n text = refl
+write-in numbers w n text = refl
 
 -- A text means one term, which is closed and small.
 pub one-meant : (d : Dialect) (text : List ℕ) (t u : Term) → MeantIn d text t → MeantIn d text u → t ≡ u

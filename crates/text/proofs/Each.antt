@@ -1,8 +1,10 @@
 -- What holds of the value of an option, if it has one; and how the choices of the definitions pass it on.
 use mathlib.Core.Path.{_≡_, refl, subst}
-use mathlib.Core.Bool.{Bool, true, false}
+use mathlib.Core.Bool.{Bool, true, false, cond}
 use mathlib.Core.Option.{Option, none, some}
+use mathlib.Core.List.{List, [], _∷_, _++_, append-nil}
 use Rattle.term.specs.Choice.{_>>=_, choose, ifSome}
+use Rattle.text.specs.Parsed.{Parsed, isEmpty, whole}
 
 abbrev pub Each : {A : Type 0} → (A → Type 0) → Option A → Type 0
 Each P none = Unit
@@ -45,3 +47,11 @@ bind-ap o p k e = rw e
 pub choose-same : {B : Type 0} (t : Bool) (x y m n : Unit {0} → Option B) → x tt ≡ m tt → y tt ≡ n tt → choose t x y ≡ choose t m n
 choose-same true x y m n p q = p
 choose-same false x y m n p q = q
+
+-- What was read, where nothing is left, is spelt by all that there was.
+pub whole-spells : {A B : Type 0} (spelling : A → List B) (s : List B) (p : Parsed A B) → spelling (p .value) ++ p .left ≡ s → Each (λ a. spelling a ≡ s) (whole p)
+whole-spells {B = B} spelling s p e = by-left (p .left) e
+  where
+    by-left : (left : List B) → spelling (p .value) ++ left ≡ s → Each (λ a. spelling a ≡ s) (cond (isEmpty left) (some (p .value)) none)
+    by-left [] e = rw append-nil at e
+    by-left (b ∷ left) e = tt

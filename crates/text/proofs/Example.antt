@@ -8,11 +8,10 @@ use Rattle.term.specs.Table.{row, rowsOf, tableOf, tableIn, kindOf}
 use Rattle.term.specs.Accepted.{partBy, partAt, accepted}
 use Rattle.text.specs.Bytes.{classOf}
 use Rattle.text.specs.Written.{treeOf, treeText, textOf}
-use Rattle.text.specs.Writing.{tableText, writerNumber, writing, writeOf}
+use Rattle.text.specs.Writing.{tableText, writerNumber, writing, writeOf, writeNumbersOf}
 use Rattle.text.specs.NumberGrammar.{numberText}
 use Rattle.text.specs.NumberParse.{digitsFirst, phraseAt, parseNumbers}
 use Rattle.text.specs.NumberReading.{numbersMeant, numbersNumber, readNumbersOf}
-use Rattle.text.specs.Dialects.{writeNumbersOf}
 
 -- its table, as document 01 lists it
 abbrev pub exampleRows : List ℕ

@@ -14,10 +14,11 @@ pub mod Names
 pub mod NodeNames
 pub mod Fewest
 pub mod Writing
-pub mod ReadBack
+pub mod WellSpelled
 pub mod NumberGrammar
 pub mod NumberParse
 pub mod NumbersRead
 pub mod Dialects
+pub mod ReadBack
 pub mod Converting
 pub mod ThereAndBack

@@ -12,12 +12,12 @@ use Rattle.decimal.proofs.Decimal.{decimal-is, decimal-apart, decimal-few}
 use Rattle.term.specs.Term.{Term, var, lam, app, size, ClosedUnder, Closed}
 use Rattle.term.specs.Accepted.{mostNodes}
 use Rattle.term.proofs.Scope.{Falling, falling-higher, binder-before}
-use Rattle.text.specs.Bytes.{digit, dot, closing, classOf}
+use Rattle.text.specs.Bytes.{digit, dot, closing, space, classOf}
 use Rattle.text.specs.Tokens.{Name, name, AllInName}
 use Rattle.text.specs.Grammar.{Tree, variable, binder, apply}
 use Rattle.text.specs.Binding.{nameless, Innermost, Form}
 use Rattle.text.specs.Exactly.{GoodNames}
-use Rattle.text.specs.Written.{nodeName, treeOf, namedTree, space, functionNeeds, argumentNeeds, enclosed, treeText, textOf}
+use Rattle.text.specs.Written.{nodeName, treeOf, namedTree, functionNeeds, argumentNeeds, enclosed, treeText, textOf}
 use Rattle.text.specs.ReadBack.{TextMeans}
 use Rattle.text.proofs.Binding.{nameless-exactly, nameless-closed}
 use Rattle.text.proofs.Size.{nodes, size-nodes}

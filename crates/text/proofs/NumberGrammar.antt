@@ -8,8 +8,7 @@ use Rattle.decimal.specs.Decimal.{decimal}
 use Rattle.decimal.proofs.Decimal.{decimal-is, decimal-only, decimal-few}
 use Rattle.term.specs.Term.{Term, var, lam, app, size, ClosedUnder, Closed}
 use Rattle.term.specs.Accepted.{mostNodes}
-use Rattle.text.specs.Bytes.{lambda}
-use Rattle.text.specs.Written.{space}
+use Rattle.text.specs.Bytes.{lambda, space}
 use Rattle.text.specs.NumberGrammar.{atSign, Phrase, number, abstraction, application, numberText, PhraseExactly}
 
 phrase-text : (s : List ℕ) (t : Term) → Phrase s t → s ≡ numberText t

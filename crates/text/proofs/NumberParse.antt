@@ -13,11 +13,11 @@ use Rattle.decimal.specs.Decimal.{digitByte, decimal, AllDigits, valueAfter, Is
 use Rattle.decimal.proofs.Decimal.{decimal-is, decimal-only}
 use Rattle.term.specs.Choice.{_⇒_, first}
 use Rattle.term.specs.Term.{Term, var, lam, app, size}
-use Rattle.text.specs.Bytes.{letter, digit, blank, sign, foreign, classOf, isDigit, lambda, dot, opening, closing}
-use Rattle.text.specs.Written.{space}
+use Rattle.text.specs.Bytes.{letter, digit, blank, sign, foreign, lambda, dot, opening, closing, space, classOf, isDigit}
+use Rattle.text.specs.Parsed.{Parsed, parsed, isEmpty}
 use Rattle.text.specs.NumberGrammar.{atSign, numberText, OnePhrase}
-use Rattle.text.specs.NumberParse.{Parsed, parsed, afterByte, digitsFirst, isNumber, numberAt, phraseAt, isEmpty, parseNumbers, NumbersExactly}
-use Rattle.text.proofs.Each.{Each, each-some, each-bind, each-if}
+use Rattle.text.specs.NumberParse.{afterByte, digitsFirst, isNumber, numberAt, phraseAt, parseNumbers, NumbersExactly}
+use Rattle.text.proofs.Each.{Each, each-some, each-bind, each-if, whole-spells}
 use Rattle.text.proofs.Names.{digit-class}
 use Rattle.text.proofs.NumberGrammar.{phrase-exactly, text-long}
 
@@ -115,7 +115,7 @@ phrase-found (app g a) (suc f) rest h e =
     rw (append-assoc, phrase-found g f (space ∷ (numberText a ++ rest)) (omega arith) (space-ends (numberText a ++ rest)), phrase-found a f rest (omega arith) e)
 
 -- What is read and what is left spell the bytes.
-abbrev Spelt : List ℕ → Parsed → Type 0
+abbrev Spelt : List ℕ → Parsed Term ℕ → Type 0
 Spelt s p = numberText (p .value) ++ p .left ≡ s
 
 after-spelt : (b : ℕ) (s : List ℕ) → Each (λ r. b ∷ r ≡ s) (afterByte b s)
@@ -131,7 +131,7 @@ unfolding numberText
 number-spelt s = by-test (isNumber (digitsFirst s)) refl
   where
     by-test : (t : Bool) → isNumber (digitsFirst s) ≡ t
-        → Each (λ (p : Parsed). numberText (p .value) ++ p .left ≡ s) (cond t (some (parsed (var (valueAfter 0 (digitsFirst s))) (drop (length (digitsFirst s)) s))) none)
+        → Each (λ (p : Parsed Term ℕ). numberText (p .value) ++ p .left ≡ s) (cond t (some (parsed (var (valueAfter 0 (digitsFirst s))) (drop (length (digitsFirst s)) s))) none)
     by-test true e =
         ap (λ d. d ++ drop (length (digitsFirst s)) s) (sym (decimal-only (digitsFirst s) (valueAfter 0 (digitsFirst s)) (number-only (digitsFirst s) (digits-are s) e)))
         ∙ digits-then s
@@ -158,11 +158,7 @@ whole-spelt : (text : List ℕ) → Each (λ t. numberText t ≡ text) (parseNum
 unfolding parseNumbers
 whole-spelt text =
     each-bind (Spelt text) (λ t. numberText t ≡ text) (phraseAt (length text) text) _ (phrase-spelt (length text) text)
-    λ p e. by-left (p .value) (p .left) e
-  where
-    by-left : (t : Term) (left : List ℕ) → numberText t ++ left ≡ text → Each (λ u. numberText u ≡ text) (cond (isEmpty left) (some t) none)
-    by-left t [] e = rw append-nil at e
-    by-left t (b ∷ left) e = tt
+    λ p e. whole-spells numberText text p e
 
 text-parsed : (t : Term) → parseNumbers (numberText t) ≡ some t
 unfolding parseNumbers digitsFirst
@@ -186,4 +182,4 @@ one-reading t u r q d e same =
     let f = size t + size u in
     let found : parsed t r ≡ parsed u q =
     Option·some-injective (parsed t r) (parsed u q) (sym (phrase-found t f r (omega arith) d) ∙ ap (phraseAt f) same ∙ phrase-found u f q (omega arith) e) in
-    (ap (λ (p : Parsed). p .value) found, ap (λ (p : Parsed). p .left) found)
+    (ap (λ (p : Parsed Term ℕ). p .value) found, ap (λ (p : Parsed Term ℕ). p .left) found)

@@ -11,8 +11,9 @@ use lib.ListN.{length, length-append}
 use Rattle.text.specs.Bytes.{lambda, closing}
 use Rattle.text.specs.Tokens.{Token, mark}
 use Rattle.text.specs.Grammar.{Phrase, abstraction, atoms, Atoms, no-more, _and_, Atom, named, bracketed, phraseTokens, atomsTokens, atomTokens, Tree, phraseTree, Derives}
-use Rattle.text.specs.Parse.{parsed, afterMark, startsAtom, phraseAt, atomsAt, atomAt, isEmpty, parse}
-use Rattle.text.proofs.Each.{Each, each-some, each-bind}
+use Rattle.text.specs.Parsed.{parsed, isEmpty}
+use Rattle.text.specs.Parse.{afterMark, startsAtom, phraseAt, atomsAt, atomAt, phraseFrom, parse}
+use Rattle.text.proofs.Each.{Each, each-some, each-bind, whole-spells}
 use Rattle.text.proofs.Spelt.{Spelt, phrase-spelt, atom-some}
 
 -- the first token of an atom: no `\`, and one that starts an atom
@@ -57,17 +58,13 @@ mutual
 
 -- what `parse` finds is spelt by all the tokens
 whole-spelt : (ts : List Token) → Each (λ p. phraseTokens p ≡ ts) (parse ts)
-unfolding parse
+unfolding parse phraseFrom
 whole-spelt ts =
     each-bind (Spelt phraseTokens ts) (λ p. phraseTokens p ≡ ts) (phraseAt (3 * length ts + 3) ts) _ (phrase-spelt (3 * length ts + 3) ts)
-    λ p e. by-left (p .value) (p .left) e
-  where
-    by-left : (p : Phrase) (left : List Token) → phraseTokens p ++ left ≡ ts → Each (λ q. phraseTokens q ≡ ts) (cond (isEmpty left) (some p) none)
-    by-left p [] e = rw append-nil at e
-    by-left p (t ∷ left) e = tt
+    λ p e. whole-spells phraseTokens ts p e
 
 phrase-parsed : (p : Phrase) → parse (phraseTokens p) ≡ some p
-unfolding parse
+unfolding parse phraseFrom
 phrase-parsed p =
     let d = 3 * length (phraseTokens p) + 3 in
     let e : phraseAt d (phraseTokens p) ≡ some (parsed p []) =

@@ -1,110 +1,46 @@
--- What is written is read back as the same table, and two tables with the same text are the same.
+-- What is written, in either dialect, is read back as the same table; and two tables with the same text are the same.
 use mathlib.Core.Path.{_≡_, refl, sym, ap, _∙_, subst⁻¹}
-use mathlib.Core.Bool.{Bool, true, false}
-use mathlib.Core.List.{List, [], _∷_, _++_}
+use mathlib.Core.List.{List, _++_}
 use Prim.Native.Nat.{ℕ, _*_, _≤_}
 use native.Mathlib.Omega.{arith}
 use lib.ListN.{length, take, drop}
 use lib.Seq.{take-at}
+use borrow.Author.Tests.{le-ltb}
 use Rattle.term.specs.Term.{Term, size, Closed}
 use Rattle.term.specs.Table.{tableOf}
 use Rattle.term.specs.Accepted.{mostNodes, Accepted}
 use Rattle.term.proofs.Accepted.{term-size}
-use Rattle.text.specs.Bytes.{Class, letter, digit, blank, sign, foreign, classOf, isForeign, inName, dot, closing}
-use Rattle.text.specs.Tokens.{Name, Token, mark, name, AllInName}
-use Rattle.text.specs.Grammar.{Tree, variable, binder, apply}
-use Rattle.text.specs.Reading.{mostBytes, anyForeign, readOf}
-use Rattle.text.specs.Exactly.{GoodNames, WellSpelled, Means}
-use Rattle.text.specs.Written.{namedTree, functionNeeds, argumentNeeds, space, enclosed, treeText, textOf}
-use Rattle.text.specs.Writing.{Write, writeOf}
+use Rattle.text.specs.Reading.{mostBytes}
+use Rattle.text.specs.Exactly.{Means}
+use Rattle.text.specs.Written.{textOf}
+use Rattle.text.specs.Writing.{Write, writtenOut, written}
+use Rattle.text.specs.Dialects.{Dialect, readIn, textIn, writeIn}
 use Rattle.text.specs.ReadBack.{ReadBack, OneTable}
-use Rattle.text.proofs.Exactly.{neither, none-foreign, one-meaning, accepted-exactly}
-use Rattle.text.proofs.Written.{enclosedTokens, treeTokens, Names, IsName, text-tokens}
-use Rattle.text.proofs.Names.{GoodName, tree-names, term-names, text-means}
+use Rattle.text.proofs.Exactly.{one-meaning}
+use Rattle.text.proofs.Names.{text-means}
 use Rattle.text.proofs.Writing.{Finds, no-table, no-room, fitting, finds}
+use Rattle.text.proofs.Dialects.{write-in, laid, text-meant, reads-meant}
 
--- No byte of a text is foreign,
-clean-append : (s r : List ℕ) → anyForeign s ≡ false → anyForeign r ≡ false → anyForeign (s ++ r) ≡ false
-clean-append [] r h i = i
-clean-append (b ∷ s) r h i = let k = neither (isForeign (classOf b)) (anyForeign s) h in rw (k .0) (clean-append s r (k .1) i)
+-- the bytes of a text that was written
+pub written-out : (s out : List ℕ) → written (writtenOut s out) ≡ s
+written-out s out = take-at s (drop (length s) out) (length s) refl
 
-name-class : (c : Class) → inName c ≡ true → isForeign c ≡ false
-name-class letter h = refl
-name-class digit h = refl
-name-class blank h = refl
-name-class sign h = refl
-name-class foreign h = cc
-
-name-clean : (x : Name) → AllInName x → anyForeign x ≡ false
-name-clean [] h = refl
-name-clean (b ∷ x) h = rw (name-class (classOf b) (h .0)) (name-clean x (h .1))
-
-enclosed-clean : (b : Bool) (s : List ℕ) → anyForeign s ≡ false → anyForeign (enclosed b s) ≡ false
-unfolding classOf
-enclosed-clean true s h = clean-append s (closing ∷ []) h refl
-enclosed-clean false s h = h
-
-tree-clean : (t : Tree) → Names IsName t → anyForeign (treeText t) ≡ false
-unfolding treeText classOf
-tree-clean (variable x) g = name-clean x (g .1)
-tree-clean (binder x t) g = clean-append x (dot ∷ treeText t) (name-clean x (g .0 .1)) (tree-clean t (g .1))
-tree-clean (apply f a) g =
-    clean-append (enclosed (functionNeeds f) (treeText f)) (space ∷ enclosed (argumentNeeds a) (treeText a))
-    (enclosed-clean (functionNeeds f) (treeText f) (tree-clean f (g .0)))
-    (enclosed-clean (argumentNeeds a) (treeText a) (tree-clean a (g .1)))
-
--- and its names are those of the tree.
-good-append : (ts us : List Token) → GoodNames ts → GoodNames us → GoodNames (ts ++ us)
-good-append [] us h i = i
-good-append (mark b ∷ ts) us h i = good-append ts us h i
-good-append (name x ∷ ts) us h i = (h .0, h .1, good-append ts us (h .2) i)
-
-enclosed-good : (b : Bool) (ts : List Token) → GoodNames ts → GoodNames (enclosedTokens b ts)
-enclosed-good true ts h = good-append ts (mark closing ∷ []) h tt
-enclosed-good false ts h = h
-
-tree-good : (t : Tree) → Names GoodName t → GoodNames (treeTokens t)
-unfolding treeTokens
-tree-good (variable x) g = g
-tree-good (binder x t) g = (g .0 .0, g .0 .1, tree-good t (g .1))
-tree-good (apply f a) g =
-    good-append (enclosedTokens (functionNeeds f) (treeTokens f)) (enclosedTokens (argumentNeeds a) (treeTokens a))
-    (enclosed-good (functionNeeds f) (treeTokens f) (tree-good f (g .0)))
-    (enclosed-good (argumentNeeds a) (treeTokens a) (tree-good a (g .1)))
-
-pub text-spelled : (t : Term) → Closed t → size t ≤ mostNodes → length (textOf t) ≤ mostBytes → WellSpelled (textOf t)
-unfolding textOf
-text-spelled t closed few short = record {
-  few-bytes = short;
-  no-foreign = none-foreign (treeText (namedTree t)) .0 (tree-clean (namedTree t) (tree-names t [] 1));
-  good-names = subst⁻¹ GoodNames (text-tokens (namedTree t) (tree-names t [] 1)) (tree-good (namedTree t) (term-names t closed few));
-}
-
-module _ (w : List ℕ) (n : ℕ) (text table : List ℕ) (room : 5 * n ≤ length table) where
-  abbrev SameTable : List ℕ → Type 0
-  SameTable s = readOf s table ≡ record { n = n; refusal = 0; table = take (5 * n) w ++ drop (5 * n) table }
-
-  reads-same : (A : Accepted w n) → length (textOf (A .term)) ≤ mostBytes → SameTable (textOf (A .term))
-  reads-same A short =
-      let n-is : n ≡ size (A .term) = sym (term-size w n A) in
-      accepted-exactly (textOf (A .term)) table n (take (5 * n) w ++ drop (5 * n) table) .1 record {
-        well-spelled = text-spelled (A .term) (A .closed) (omega (arith, A .few-nodes)) short;
-        term = A .term;
-        means = text-means (A .term) (A .closed);
-        n-is = n-is;
-        room = room;
-        words-are = ap (λ ws. ws ++ drop (5 * n) table) (sym (A .same));
-      }
-
-  by-found : (r : Write) → Finds textOf w n text r → r .refusal ≡ 0 → SameTable (take (r .len) (r .text))
-  by-found r (no-table h) e = absurd (omega arith)
-  by-found r (no-room A h) e = absurd (omega arith)
-  by-found r (fitting A h) e =
-      let s = textOf (A .term) in
-      subst⁻¹ SameTable (take-at s (drop (length s) text) (length s) refl) (reads-same A (h .0))
+-- The text of a closed term is read as the term is laid out.
+pub read-text : (d : Dialect) (t : Term) → Closed t → size t ≤ mostNodes → length (textIn d t) ≤ mostBytes → (table : List ℕ) → readIn d (textIn d t) table ≡ laid t table
+read-text d t c few short table = reads-meant d (textIn d t) t (text-meant d t c few short) table
 
 pub read-back : ReadBack
-read-back w n text table e room = by-found w n text table room (writeOf w n text) (finds textOf w n text) e
+read-back d w n text table z room = by-found (writeIn d w n text) (subst⁻¹ (Finds (textIn d) w n text) (write-in d w n text) (finds (textIn d) w n text)) z
+  where
+    by-found : (r : Write) → Finds (textIn d) w n text r → r .refusal ≡ 0
+        → readIn d (written r) table ≡ record { n = n; refusal = 0; table = take (5 * n) w ++ drop (5 * n) table }
+    by-found r (no-table h) e = absurd (omega arith)
+    by-found r (no-room A h) e = absurd (omega arith)
+    by-found r (fitting A h) e =
+        let size-is = term-size w n A in
+        ap (λ s. readIn d s table) (written-out (textIn d (A .term)) text)
+        ∙ read-text d (A .term) (A .closed) (omega (arith, A .few-nodes)) (h .0) table
+        ∙ rw (le-ltb (length table) (5 * size (A .term)) (omega arith), size-is, A .same)
 
 pub one-table : OneTable
 one-table w n u m A B e =

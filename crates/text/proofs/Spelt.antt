@@ -11,11 +11,12 @@ use borrow.Author.Tests.{eqb-true}
 use Rattle.text.specs.Bytes.{lambda, dot, opening, closing}
 use Rattle.text.specs.Tokens.{Name, Token, mark, name}
 use Rattle.text.specs.Grammar.{Phrase, Atoms, Atom, named, bracketed, phraseTokens, atomsTokens, atomTokens}
-use Rattle.text.specs.Parse.{Parsed, afterMark, nameFirst, startsAtom, phraseAt, atomsAt, atomAt}
+use Rattle.text.specs.Parsed.{Parsed}
+use Rattle.text.specs.Parse.{afterMark, nameFirst, startsAtom, phraseAt, atomsAt, atomAt}
 use Rattle.text.proofs.Each.{Each, each-some, each-bind, each-if, each-choose}
 
 -- p was read of ts: its tokens and those that are left
-abbrev pub Spelt : {A : Type 0} → (A → List Token) → List Token → Parsed A → Type 0
+abbrev pub Spelt : {A : Type 0} → (A → List Token) → List Token → Parsed A Token → Type 0
 Spelt spelling ts p = spelling (p .value) ++ p .left ≡ ts
 
 abbrev pub nameTokens : Name → List Token
@@ -72,13 +73,13 @@ mutual
       λ p ep. each-bind (λ vs. mark closing ∷ vs ≡ p .left) here (afterMark closing (p .left)) _ (after-spelt closing (p .left))
       λ vs ev. cc (append-assoc (phraseTokens (p .value)) (mark closing ∷ []) vs))
 
-pub phrase-sound : (f : ℕ) (ts : List Token) (p : Parsed Phrase) → phraseAt f ts ≡ some p → phraseTokens (p .value) ++ p .left ≡ ts
+pub phrase-sound : (f : ℕ) (ts : List Token) (p : Parsed Phrase Token) → phraseAt f ts ≡ some p → phraseTokens (p .value) ++ p .left ≡ ts
 phrase-sound f ts p e = each-some (Spelt phraseTokens ts) (phrase-spelt f ts) e
 
-pub atoms-sound : (f : ℕ) (ts : List Token) (p : Parsed Atoms) → atomsAt f ts ≡ some p → atomsTokens (p .value) ++ p .left ≡ ts
+pub atoms-sound : (f : ℕ) (ts : List Token) (p : Parsed Atoms Token) → atomsAt f ts ≡ some p → atomsTokens (p .value) ++ p .left ≡ ts
 atoms-sound f ts p e = each-some (Spelt atomsTokens ts) (atoms-spelt f ts) e
 
-pub atom-sound : (f : ℕ) (ts : List Token) (p : Parsed Atom) → atomAt f ts ≡ some p → atomTokens (p .value) ++ p .left ≡ ts
+pub atom-sound : (f : ℕ) (ts : List Token) (p : Parsed Atom Token) → atomAt f ts ≡ some p → atomTokens (p .value) ++ p .left ≡ ts
 atom-sound f ts p e = each-some (Spelt atomTokens ts) (atom-spelt f ts) e
 
 -- an atom has a token, so less is left after it
@@ -86,5 +87,5 @@ pub atom-some : (a : Atom) → 1 ≤ length (atomTokens a)
 atom-some (named x) = omega arith
 atom-some (bracketed p) = omega arith
 
-pub atom-shorter : (ts : List Token) (a : Parsed Atom) → Spelt atomTokens ts a → length (a .left) < length ts
+pub atom-shorter : (ts : List Token) (a : Parsed Atom Token) → Spelt atomTokens ts a → length (a .left) < length ts
 atom-shorter ts a e = omega (arith, atom-some (a .value), length-append (atomTokens (a .value)) (a .left), ap length e)

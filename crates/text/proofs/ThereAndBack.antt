@@ -1,33 +1,23 @@
--- Both dialects are read alike, what was written is read, what was read is written, and a text that was converted reads as its original.
+-- Both dialects are read alike, what was read is written, and a text that was converted reads as its original.
 use mathlib.Core.Path.{_≡_, refl, sym, ap, _∙_, subst⁻¹}
 use mathlib.Core.Bool.{Bool, true, false, cond}
-use mathlib.Core.List.{List, _++_}
-use Prim.Native.Nat.{ℕ, _*_, _≤_}
+use mathlib.Core.List.{List}
+use Prim.Native.Nat.{ℕ, _*_}
 use native.Mathlib.Omega.{arith}
-use lib.ListN.{length, take, drop}
-use lib.Seq.{take-at}
+use lib.ListN.{length, drop}
 use lib.Dec.{ltb}
 use borrow.Author.Tests.{le-ltb}
-use Rattle.term.specs.Term.{Term, size, Closed}
-use Rattle.term.specs.Accepted.{mostNodes, Accepted}
-use Rattle.term.proofs.Accepted.{term-size}
+use Rattle.term.specs.Term.{Term, size}
+use Rattle.term.specs.Accepted.{Accepted}
 use Rattle.text.specs.Reading.{Read, mostBytes, refused, laidOut}
-use Rattle.text.specs.Writing.{Write, writtenOut}
-use Rattle.text.specs.Dialects.{Dialect, numbers, readIn, MeantIn, textIn, writeIn, written, convertOf}
-use Rattle.text.specs.ThereAndBack.{SameTable, ReadAccepted, NumbersReadBack, NumbersWriteBack, ConvertedReads, ThereAndBack}
+use Rattle.text.specs.Writing.{Write, written}
+use Rattle.text.specs.Dialects.{Dialect, numbers, readIn, MeantIn, textIn, writeIn, convertOf}
+use Rattle.text.specs.ThereAndBack.{SameTable, ReadAccepted, NumbersWriteBack, ConvertedReads, ThereAndBack}
 use Rattle.text.proofs.Accepted.{laidAccepted}
-use Rattle.text.proofs.Writing as ByTable
 use Rattle.text.proofs.NumberGrammar.{phrase-exactly}
 use Rattle.text.proofs.Dialects.{laid, one-meant, closed-meant, few-meant, text-meant, reads-meant, Sees, refuses, means, sees}
+use Rattle.text.proofs.ReadBack.{written-out, read-text}
 use Rattle.text.proofs.Converting.{byLength, laid-written, converts-meant, Finds, no-term, no-room, fitting, finds}
-
--- the bytes of a text that was written
-written-out : (s out : List ℕ) → written (writtenOut s out) ≡ s
-written-out s out = take-at s (drop (length s) out) (length s) refl
-
--- The text of a closed term is read as the term is laid out.
-read-text : (d : Dialect) (t : Term) → Closed t → size t ≤ mostNodes → length (textIn d t) ≤ mostBytes → (table : List ℕ) → readIn d (textIn d t) table ≡ laid t table
-read-text d t c few short table = reads-meant d (textIn d t) t (text-meant d t c few short) table
 
 -- What was not refused is the table of what the text means.
 module _ (d : Dialect) (text table : List ℕ) where
@@ -55,19 +45,6 @@ read-accepted d text table z =
     let q = was-read d text table z in
     let t = q .0 in
     subst⁻¹ (λ (r : Read). Accepted (r .table) (r .n)) (q .2) (laidAccepted t (closed-meant d text t (q .1)) (few-meant d text t (q .1)) (drop (5 * size t) table))
-
-pub numbers-read-back : NumbersReadBack
-numbers-read-back w n text table z room = by-found (writeIn numbers w n text) (ByTable.finds (textIn numbers) w n text) z
-  where
-    by-found : (r : Write) → ByTable.Finds (textIn numbers) w n text r → r .refusal ≡ 0
-        → readIn numbers (written r) table ≡ record { n = n; refusal = 0; table = take (5 * n) w ++ drop (5 * n) table }
-    by-found r (ByTable.no-table h) e = absurd (omega arith)
-    by-found r (ByTable.no-room A h) e = absurd (omega arith)
-    by-found r (ByTable.fitting A h) e =
-        let size-is = term-size w n A in
-        ap (λ s. readIn numbers s table) (written-out (textIn numbers (A .term)) text)
-        ∙ read-text numbers (A .term) (A .closed) (omega (arith, A .few-nodes)) (h .0) table
-        ∙ rw (le-ltb (length table) (5 * size (A .term)) (omega arith), size-is, A .same)
 
 pub numbers-write-back : NumbersWriteBack
 numbers-write-back text table out z room =

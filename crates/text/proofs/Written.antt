@@ -3,11 +3,11 @@ use mathlib.Core.Path.{_≡_, refl, sym, ap, _∙_}
 use mathlib.Core.Bool.{Bool, true, false}
 use mathlib.Core.List.{List, [], _∷_, _++_, append-nil, append-assoc}
 use Prim.Native.Nat.{ℕ}
-use Rattle.text.specs.Bytes.{lambda, dot, opening, closing, classOf}
+use Rattle.text.specs.Bytes.{lambda, dot, opening, closing, space, classOf}
 use Rattle.text.specs.Tokens.{Name, Token, mark, name, token, tokens, IsPiece}
 use Rattle.text.specs.Grammar.{Phrase, abstraction, atoms, Atoms, no-more, _and_, Atom, named, bracketed, phraseTokens, atomsTokens, atomTokens, Tree, variable, binder, apply, phraseTree, applied, atomTree, Derives}
-use Rattle.text.specs.Written.{functionNeeds, argumentNeeds, space, enclosed, treeText, phraseText, atomsText, atomText}
-use Rattle.text.specs.Spelling.{WrittenPhrase}
+use Rattle.text.specs.Written.{functionNeeds, argumentNeeds, enclosed, treeText}
+use Rattle.text.specs.Spelling.{phraseText, atomsText, atomText, WrittenPhrase}
 use Rattle.text.proofs.Tokens.{NameEnds, tokens-nil, tokens-blank, tokens-mark, tokens-name}
 
 -- The phrase of a tree, by itself, as the function of the atoms bs, and as an atom.

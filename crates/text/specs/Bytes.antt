@@ -22,6 +22,9 @@ opening = 40
 abbrev pub closing : ℕ
 closing = 41
 
+abbrev pub space : ℕ
+space = 32
+
 -- A foreign byte is one that number 2 refuses: "a byte that is no letter a to z, digit, `\`, `.`, round bracket, space or line feed".
 unfoldable pub classOf : ℕ → Class
 classOf b =
@@ -29,7 +32,7 @@ classOf b =
     (first (
     (leb 97 b && leb b 122 ⇒ letter)
     ∷ (leb 48 b && leb b 57 ⇒ digit)
-    ∷ (eqb b 32 || eqb b 10 ⇒ blank)
+    ∷ (eqb b space || eqb b 10 ⇒ blank)
     ∷ (eqb b lambda || eqb b dot || eqb b opening || eqb b closing ⇒ sign)
     ∷ []
     ))

@@ -2,14 +2,14 @@
 use mathlib.Core.Bool.{cond}
 use mathlib.Core.List.{List}
 use Prim.Native.Nat.{ℕ, _*_}
-use lib.ListN.{take, replicate}
+use lib.ListN.{replicate}
 use lib.Dec.{eqb}
 use Rattle.term.specs.Term.{Term}
 use Rattle.term.specs.Accepted.{mostNodes}
 use Rattle.text.specs.Reading.{Read, readOf}
 use Rattle.text.specs.Exactly.{WellSpelled, Means}
 use Rattle.text.specs.Written.{textOf}
-use Rattle.text.specs.Writing.{Write, refused, writing}
+use Rattle.text.specs.Writing.{Write, refused, writeOf, writeNumbersOf}
 use Rattle.text.specs.NumberGrammar.{numberText}
 use Rattle.text.specs.NumberReading.{readNumbersOf}
 use Rattle.text.specs.NumbersRead.{NumbersMean}
@@ -34,14 +34,8 @@ textIn numbers t = numberText t
 
 -- how a table is written
 abbrev pub writeIn : Dialect → List ℕ → ℕ → List ℕ → Write
-writeIn d w n text = writing (textIn d) w n text
-
-abbrev pub writeNumbersOf : List ℕ → ℕ → List ℕ → Write
-writeNumbersOf w n text = writeIn numbers w n text
-
--- the bytes that a call has written
-abbrev pub written : Write → List ℕ
-written r = take (r .len) (r .text)
+writeIn names w n text = writeOf w n text
+writeIn numbers w n text = writeNumbersOf w n text
 
 -- "a table of its own": it has room for the table of every text
 unfoldable pub ownTable : List ℕ

@@ -6,8 +6,7 @@ use mathlib.Core.List.{List, _∷_, _++_}
 use Prim.Native.Nat.{ℕ}
 use Rattle.decimal.specs.Decimal.{decimal, IsDecimal}
 use Rattle.term.specs.Term.{Term, var, lam, app}
-use Rattle.text.specs.Bytes.{lambda}
-use Rattle.text.specs.Written.{space}
+use Rattle.text.specs.Bytes.{lambda, space}
 
 -- `@`
 abbrev pub atSign : ℕ

@@ -10,17 +10,9 @@ use lib.Dec.{eqb}
 use Rattle.decimal.specs.Decimal.{digitByte, valueAfter}
 use Rattle.term.specs.Choice.{_>>=_, ifSome}
 use Rattle.term.specs.Term.{Term, var, lam, app}
-use Rattle.text.specs.Bytes.{classOf, isDigit, lambda}
-use Rattle.text.specs.Written.{space}
+use Rattle.text.specs.Bytes.{lambda, space, classOf, isDigit}
+use Rattle.text.specs.Parsed.{Parsed, parsed, whole}
 use Rattle.text.specs.NumberGrammar.{atSign, Phrase}
-
--- what was read, and the bytes that are left
-pub record Parsed : Type 0 where
-  pub value : Term
-  pub left : List ℕ
-
-abbrev pub parsed : Term → List ℕ → Parsed
-parsed t s = record { value = t; left = s }
 
 -- what follows this byte, where the bytes begin with it
 abbrev pub afterByte : ℕ → List ℕ → Option (List ℕ)
@@ -38,11 +30,11 @@ isNumber [] = false
 isNumber (b ∷ []) = true
 isNumber (b ∷ c ∷ s) = not (eqb b (digitByte 0))
 
-abbrev pub numberAt : List ℕ → Option Parsed
+abbrev pub numberAt : List ℕ → Option (Parsed Term ℕ)
 numberAt s = cond (isNumber (digitsFirst s)) (some (parsed (var (valueAfter 0 (digitsFirst s))) (drop (length (digitsFirst s)) s))) none
 
 -- A phrase, at most f deep.
-unfoldable pub phraseAt : ℕ → List ℕ → Option Parsed
+unfoldable pub phraseAt : ℕ → List ℕ → Option (Parsed Term ℕ)
 phraseAt zero s = none
 phraseAt (suc f) s =
     ifSome (afterByte lambda s)
@@ -51,13 +43,9 @@ phraseAt (suc f) s =
     (λ r. afterByte space r >>= λ q. phraseAt f q >>= λ g. afterByte space (g .left) >>= λ u. phraseAt f u >>= λ a. some (parsed (app (g .value) (a .value)) (a .left)))
     (λ _. numberAt s))
 
-abbrev pub isEmpty : List ℕ → Bool
-isEmpty [] = true
-isEmpty (b ∷ s) = false
-
 -- All the bytes as one phrase. No phrase is deeper than it has bytes.
 unfoldable pub parseNumbers : List ℕ → Option Term
-parseNumbers text = phraseAt (length text) text >>= λ p. cond (isEmpty (p .left)) (some (p .value)) none
+parseNumbers text = phraseAt (length text) text >>= λ p. whole p
 
 abbrev pub NumbersExactly : Type 0
 NumbersExactly = (text : List ℕ) (t : Term) → (parseNumbers text ≡ some t) ↔ Phrase text t

@@ -9,14 +9,7 @@ use Rattle.term.specs.Choice.{_>>=_, choose, ifSome}
 use Rattle.text.specs.Bytes.{lambda, dot, opening, closing}
 use Rattle.text.specs.Tokens.{Name, Token, mark, name}
 use Rattle.text.specs.Grammar.{Phrase, abstraction, atoms, Atoms, no-more, _and_, Atom, named, bracketed}
-
--- what was read, and the tokens that are left
-pub record Parsed (A : Type 0) : Type 0 where
-  pub value : A
-  pub left : List Token
-
-abbrev pub parsed : {A : Type 0} → A → List Token → Parsed A
-parsed a ts = record { value = a; left = ts }
+use Rattle.text.specs.Parsed.{Parsed, parsed, whole}
 
 -- what follows this sign, where the tokens begin with it
 abbrev pub afterMark : ℕ → List Token → Option (List Token)
@@ -25,7 +18,7 @@ afterMark b (mark c ∷ ts) = cond (eqb c b) (some ts) none
 afterMark b (name x ∷ ts) = none
 
 -- the name that the tokens begin with
-abbrev pub nameFirst : List Token → Option (Parsed Name)
+abbrev pub nameFirst : List Token → Option (Parsed Name Token)
 nameFirst [] = none
 nameFirst (mark c ∷ ts) = none
 nameFirst (name x ∷ ts) = some (parsed x ts)
@@ -38,31 +31,32 @@ startsAtom (name x ∷ ts) = true
 
 -- A term, the atoms after the first, and an atom: they call on each other as the grammar does, at most f deep.
 unfoldable mutual
-  pub phraseAt : ℕ → List Token → Option (Parsed Phrase)
+  pub phraseAt : ℕ → List Token → Option (Parsed Phrase Token)
   phraseAt zero ts = none
   phraseAt (suc f) ts =
       ifSome (afterMark lambda ts)
       (λ us. nameFirst us >>= λ x. afterMark dot (x .left) >>= λ vs. phraseAt f vs >>= λ p. some (parsed (abstraction (x .value) (p .value)) (p .left)))
       (λ _. atomAt f ts >>= λ a. atomsAt f (a .left) >>= λ bs. some (parsed (atoms (a .value) (bs .value)) (bs .left)))
 
-  pub atomsAt : ℕ → List Token → Option (Parsed Atoms)
+  pub atomsAt : ℕ → List Token → Option (Parsed Atoms Token)
   atomsAt zero ts = none
   atomsAt (suc f) ts =
       choose (startsAtom ts)
       (λ _. atomAt f ts >>= λ b. atomsAt f (b .left) >>= λ bs. some (parsed (b .value and bs .value) (bs .left)))
       (λ _. some (parsed no-more ts))
 
-  pub atomAt : ℕ → List Token → Option (Parsed Atom)
+  pub atomAt : ℕ → List Token → Option (Parsed Atom Token)
   atomAt zero ts = none
   atomAt (suc f) ts =
       ifSome (nameFirst ts)
       (λ x. some (parsed (named (x .value)) (x .left)))
       (λ _. afterMark opening ts >>= λ us. phraseAt f us >>= λ p. afterMark closing (p .left) >>= λ vs. some (parsed (bracketed (p .value)) vs))
 
-abbrev pub isEmpty : List Token → Bool
-isEmpty [] = true
-isEmpty (t ∷ ts) = false
+-- A term that the tokens begin with. It is deep enough by 3 for each token and a rank more, 3 for a term, 2 for atoms and 1 for an atom: a call that takes no
+-- token goes to a lower rank.
+unfoldable pub phraseFrom : List Token → Option (Parsed Phrase Token)
+phraseFrom ts = phraseAt (3 * length ts + 3) ts
 
--- All the tokens as one term. Each call but an atom's takes at most two more before a token goes, so three for each token are deep enough.
+-- All the tokens as one term.
 unfoldable pub parse : List Token → Option Phrase
-parse ts = phraseAt (3 * length ts + 3) ts >>= λ p. cond (isEmpty (p .left)) (some (p .value)) none
+parse ts = phraseFrom ts >>= λ p. whole p

@@ -1,4 +1,4 @@
--- Reading what was written: it gives the same table, and no two tables have the same text. Theorems of the same names: proofs/ReadBack.antt, and
+-- Reading what was written: it gives the same table, in either dialect; and no two tables have the same text. Theorems of the same names: proofs/ReadBack.antt, and
 -- `text-means`, proofs/Names.antt.
 use mathlib.Core.Path.{_≡_}
 use mathlib.Core.List.{List, _++_}
@@ -6,17 +6,16 @@ use Prim.Native.Nat.{ℕ, _*_, _≤_}
 use lib.ListN.{length, take, drop}
 use Rattle.term.specs.Term.{Term, Closed}
 use Rattle.term.specs.Accepted.{Accepted}
-use Rattle.text.specs.Reading.{readOf}
 use Rattle.text.specs.Exactly.{Means}
 use Rattle.text.specs.Written.{textOf}
-use Rattle.text.specs.Writing.{writeOf}
+use Rattle.text.specs.Writing.{written}
+use Rattle.text.specs.Dialects.{Dialect, readIn, writeIn}
 
--- "Reading that text, whenever it was written, into a slice of 5 × n words or more gives the same table."
+-- "Reading that text, whenever it was written, into a slice of 5 × n words or more gives the same table." It does so in both dialects.
 abbrev pub ReadBack : Type 0
 ReadBack =
-    (w : List ℕ) (n : ℕ) (text table : List ℕ) → writeOf w n text .refusal ≡ 0 → 5 * n ≤ length table
-    → readOf (take (writeOf w n text .len) (writeOf w n text .text)) table
-    ≡ record { n = n; refusal = 0; table = take (5 * n) w ++ drop (5 * n) table }
+    (d : Dialect) (w : List ℕ) (n : ℕ) (text table : List ℕ) → writeIn d w n text .refusal ≡ 0 → 5 * n ≤ length table
+    → readIn d (written (writeIn d w n text)) table ≡ record { n = n; refusal = 0; table = take (5 * n) w ++ drop (5 * n) table }
 
 -- The text of a closed term, also one over 3,000 bytes, is a term of the grammar and means that term.
 abbrev pub TextMeans : Type 0

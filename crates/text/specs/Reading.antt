@@ -5,7 +5,7 @@ use mathlib.Core.List.{List, [], _∷_, _++_}
 use Prim.Native.Nat.{ℕ, _*_}
 use lib.ListN.{length, drop}
 use lib.Dec.{ltb}
-use Rattle.term.specs.Choice.{_⇒_, first, _>>=_, isNone}
+use Rattle.term.specs.Choice.{Test, _⇒_, first, _>>=_, isNone}
 use Rattle.term.specs.Term.{Term, size}
 use Rattle.term.specs.Table.{tableOf}
 use Rattle.text.specs.Bytes.{classOf, isForeign}
@@ -37,17 +37,19 @@ abbrev pub tooShort : Option Term → List ℕ → Bool
 tooShort none table = false
 tooShort (some t) table = ltb (length table) (5 * size t)
 
+-- the three numbers that look at bytes and names alone
+abbrev pub spellingTests : List ℕ → List (Test ℕ)
+spellingTests text = (ltb mostBytes (length text) ⇒ 1) ∷ (anyForeign text ⇒ 2) ∷ (anyBadName (tokens text) ⇒ 3) ∷ []
+
 -- "The nine numbers, in order of test": the reader's.
 unfoldable pub readerNumber : List ℕ → List ℕ → Option ℕ
 readerNumber text table =
     first (
-    (ltb mostBytes (length text) ⇒ 1)
-    ∷ (anyForeign text ⇒ 2)
-    ∷ (anyBadName (tokens text) ⇒ 3)
-    ∷ (isNone (parse (tokens text)) ⇒ 4)
+    spellingTests text
+    ++ ((isNone (parse (tokens text)) ⇒ 4)
     ∷ (isNone (meant text) ⇒ 5)
     ∷ (tooShort (meant text) table ⇒ 6)
-    ∷ []
+    ∷ [])
     )
 
 -- "A refused reader answers n as 0", and no lent word differs.

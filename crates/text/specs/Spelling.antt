@@ -1,17 +1,17 @@
 -- How a written text is spelled: binders named by their nodes (`named-by-node`, proofs/NodeNames.antt), one space between atoms and no other blanks
 -- (`written-phrase`, proofs/Written.antt), and as few brackets as can be (`fewest-brackets`, proofs/Fewest.antt).
 use mathlib.Core.Path.{_≡_}
-use mathlib.Core.Bool.{Bool, cond, _||_}
+use mathlib.Core.Bool.{Bool, true, cond, _||_}
 use mathlib.Core.List.{List, [], _∷_, _++_}
 use Prim.Native.Nat.{ℕ, zero, suc, _+_, _≤_}
 use lib.Dec.{eqb}
 use Rattle.term.specs.Term.{Term}
 use Rattle.term.specs.Table.{Table, tableIn}
 use Rattle.term.specs.Accepted.{Accepted}
-use Rattle.text.specs.Bytes.{opening, closing}
+use Rattle.text.specs.Bytes.{lambda, dot, opening, closing, space}
 use Rattle.text.specs.Tokens.{Name, tokens}
-use Rattle.text.specs.Grammar.{Phrase, Tree, variable, binder, apply, phraseTree, Derives}
-use Rattle.text.specs.Written.{nodeName, namedTree, treeText, textOf, phraseText}
+use Rattle.text.specs.Grammar.{Phrase, abstraction, atoms, Atoms, no-more, _and_, Atom, named, bracketed, Tree, variable, binder, apply, phraseTree, Derives}
+use Rattle.text.specs.Written.{nodeName, namedTree, enclosed, treeText, textOf}
 
 -- the names of a tree's binders, in the order of its text
 abbrev pub binderNames : Tree → List Name
@@ -27,6 +27,20 @@ abstractionNames T i (suc k) = cond (eqb (T .kind i) 2) (nodeName i ∷ []) [] +
 -- "the name of a binder is v and its node number": a table's abstractions name the binders of its term's tree, in their order.
 abbrev pub NamedByNode : Type 0
 NamedByNode = (w : List ℕ) (n : ℕ) (A : Accepted w n) → binderNames (namedTree (A .term)) ≡ abstractionNames (tableIn w n) 1 n
+
+-- a phrase of the grammar with one space between atoms and no other blanks
+abbrev mutual
+  pub phraseText : Phrase → List ℕ
+  phraseText (abstraction x p) = lambda ∷ (x ++ (dot ∷ phraseText p))
+  phraseText (atoms a bs) = atomText a ++ atomsText bs
+
+  pub atomsText : Atoms → List ℕ
+  atomsText no-more = []
+  atomsText (b and bs) = space ∷ (atomText b ++ atomsText bs)
+
+  pub atomText : Atom → List ℕ
+  atomText (named x) = x
+  atomText (bracketed p) = enclosed true (phraseText p)
 
 -- "one space between atoms", "no other blanks": the text of a tree is that of a phrase of it.
 abbrev pub WrittenPhrase : Type 0

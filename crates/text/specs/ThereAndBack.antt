@@ -1,12 +1,13 @@
--- Reading in either dialect, reading what was written, writing what was read, and converting there and back. Theorems of the same names: proofs/ThereAndBack.antt.
+-- Reading in either dialect, writing what was read, and converting there and back. Theorems of the same names: proofs/ThereAndBack.antt.
 use mathlib.Core.Path.{_≡_}
 use mathlib.Core.List.{List, _++_}
-use Prim.Native.Nat.{ℕ, _*_, _≤_}
-use lib.ListN.{length, take, drop}
+use Prim.Native.Nat.{ℕ, _≤_}
+use lib.ListN.{length, drop}
 use Rattle.term.specs.Term.{Term}
 use Rattle.term.specs.Accepted.{Accepted}
+use Rattle.text.specs.Writing.{writeNumbersOf, written}
 use Rattle.text.specs.NumberReading.{readNumbersOf}
-use Rattle.text.specs.Dialects.{Dialect, readIn, MeantIn, writeIn, writeNumbersOf, written, convertOf}
+use Rattle.text.specs.Dialects.{Dialect, readIn, MeantIn, writeIn, convertOf}
 
 -- "Read it into the same table": two texts that mean one term, of whichever dialects, are read alike into every slice: the same n, number and words.
 abbrev pub SameTable : Type 0
@@ -18,12 +19,6 @@ abbrev pub ReadAccepted : Type 0
 ReadAccepted =
     (d : Dialect) (text table : List ℕ) → let read = readIn d text table in
     read .refusal ≡ 0 → Accepted (read .table) (read .n)
-
--- What was written of a table in numbers is read, into any slice of 5 × n words or more, as the same table.
-abbrev pub NumbersReadBack : Type 0
-NumbersReadBack =
-    (w : List ℕ) (n : ℕ) (text table : List ℕ) → writeNumbersOf w n text .refusal ≡ 0 → 5 * n ≤ length table
-    → readNumbersOf (written (writeNumbersOf w n text)) table ≡ record { n = n; refusal = 0; table = take (5 * n) w ++ drop (5 * n) table }
 
 -- What was read in numbers is written, into any buffer as long as the text or longer, as that text, byte for byte.
 abbrev pub NumbersWriteBack : Type 0

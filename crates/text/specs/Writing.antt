@@ -3,7 +3,7 @@ use mathlib.Core.Bool.{Bool, not, _||_}
 use mathlib.Core.Option.{Option, none, some}
 use mathlib.Core.List.{List, [], _∷_, _++_}
 use Prim.Native.Nat.{ℕ}
-use lib.ListN.{length, drop}
+use lib.ListN.{length, take, drop}
 use lib.Dec.{ltb}
 use Rattle.term.specs.Choice.{_⇒_, first}
 use Rattle.term.specs.Term.{Term}
@@ -11,6 +11,7 @@ use Rattle.term.specs.Table.{tableIn}
 use Rattle.term.specs.Accepted.{Part, partAt, accepted}
 use Rattle.text.specs.Reading.{mostBytes}
 use Rattle.text.specs.Written.{textOf}
+use Rattle.text.specs.NumberGrammar.{numberText}
 
 -- the answer, and the lent bytes after the call
 pub record Write : Type 0 where
@@ -53,3 +54,11 @@ writing of w n text = answer (writerNumber of w n text) (tableText of w n) text
 -- the text with names
 abbrev pub writeOf : List ℕ → ℕ → List ℕ → Write
 writeOf w n text = writing textOf w n text
+
+-- the text in numbers
+abbrev pub writeNumbersOf : List ℕ → ℕ → List ℕ → Write
+writeNumbersOf w n text = writing numberText w n text
+
+-- the bytes that a call has written
+abbrev pub written : Write → List ℕ
+written r = take (r .len) (r .text)

@@ -6,9 +6,9 @@ use Prim.Native.Nat.{ℕ, suc, _+_}
 use lib.ListN.{getD}
 use Rattle.decimal.specs.Decimal.{decimal}
 use Rattle.term.specs.Term.{Term, var, lam, app, size}
-use Rattle.text.specs.Bytes.{lambda, dot, opening, closing}
+use Rattle.text.specs.Bytes.{lambda, dot, opening, closing, space}
 use Rattle.text.specs.Tokens.{Name}
-use Rattle.text.specs.Grammar.{Phrase, abstraction, atoms, Atoms, no-more, _and_, Atom, named, bracketed, Tree, variable, binder, apply}
+use Rattle.text.specs.Grammar.{Tree, variable, binder, apply}
 
 -- "the name of a binder is v and its node number" (118 is v)
 abbrev pub nodeName : ℕ → Name
@@ -23,9 +23,6 @@ treeOf (app f a) bs i = apply (treeOf f bs (suc i)) (treeOf a bs (suc i + size f
 -- The tree of a closed term: the root is node 1.
 abbrev pub namedTree : Term → Tree
 namedTree t = treeOf t [] 1
-
-abbrev pub space : ℕ
-space = 32
 
 -- "brackets only where the grammar needs them": around an abstraction that is a function,
 abbrev pub functionNeeds : Tree → Bool
@@ -52,17 +49,3 @@ treeText (apply f a) = enclosed (functionNeeds f) (treeText f) ++ (space ∷ enc
 
 unfoldable pub textOf : Term → List ℕ
 textOf t = treeText (namedTree t)
-
--- The same in words, for the theorem `written-phrase` (proofs/Written.antt): a phrase of the grammar with one space between atoms and no other blanks.
-abbrev mutual
-  pub phraseText : Phrase → List ℕ
-  phraseText (abstraction x p) = lambda ∷ (x ++ (dot ∷ phraseText p))
-  phraseText (atoms a bs) = atomText a ++ atomsText bs
-
-  pub atomsText : Atoms → List ℕ
-  atomsText no-more = []
-  atomsText (b and bs) = space ∷ (atomText b ++ atomsText bs)
-
-  pub atomText : Atom → List ℕ
-  atomText (named x) = x
-  atomText (bracketed p) = enclosed true (phraseText p)

@@ -14,7 +14,7 @@ use Rattle.term.specs.Rows.{RowsIn}
 use Rattle.term.specs.Accepted.{Accepted}
 use Rattle.term.proofs.Rows.{table-stands}
 use Rattle.term.proofs.Accepted.{term-size}
-use Rattle.text.specs.Written.{space}
+use Rattle.text.specs.Bytes.{space}
 use Rattle.text.specs.NumberGrammar.{numberText}
 use Rattle.text.proofs.NumberGrammar.{numbers-short}
 use Rattle.writer.specs.Putting.{longestText, Put}

@@ -8,8 +8,7 @@ use lib.ListN.{length, getD, take, drop, length-append, take-append-drop}
 use lib.Seq.{take-suc, length-take-le, take-all}
 use Rattle.decimal.specs.Decimal.{decimal}
 use Rattle.term.specs.Term.{Term, var, lam, app, size}
-use Rattle.text.specs.Bytes.{lambda}
-use Rattle.text.specs.Written.{space}
+use Rattle.text.specs.Bytes.{lambda, space}
 use Rattle.text.specs.NumberGrammar.{atSign, numberText}
 
 abbrev pub partsOf : Term → List (List ℕ)

@@ -11,8 +11,8 @@ use Rattle.term.specs.Term.{Term, var, lam, app, size}
 use Rattle.term.specs.Table.{Table, tableIn}
 use Rattle.term.specs.Rows.{RowsIn}
 use Rattle.term.proofs.Rows.{size-positive}
-use Rattle.text.specs.Bytes.{lambda, dot, opening, closing}
-use Rattle.text.specs.Written.{nodeName, treeOf, functionNeeds, argumentNeeds, space, enclosed, treeText}
+use Rattle.text.specs.Bytes.{lambda, dot, opening, closing, space}
+use Rattle.text.specs.Written.{nodeName, treeOf, functionNeeds, argumentNeeds, enclosed, treeText}
 use Rattle.writer.specs.Putting.{longestText, Put, binderText, Stood, textAt, Puttable, PartPut}
 use Rattle.writer.proofs.Putting.{put-then}
 

@@ -1,8 +1,8 @@
 // The writer: the table of a closed term to its text, in either dialect.
 ghost use mathlib.Core.Path.{_≡_};
 ghost use Rattle.term.specs.Accepted.{Accepted};
-ghost use Rattle.text.specs.Writing.{writeOf};
-ghost use Rattle.text.specs.Dialects.{writeIn, writeNumbersOf};
+ghost use Rattle.text.specs.Writing.{writeOf, writeNumbersOf};
+ghost use Rattle.text.specs.Dialects.{writeIn};
 ghost use Rattle.writer.specs.Putting.{TextPut};
 ghost use Rattle.writer.specs.Types.{dialectMeant, writeMeant, refusedWriting};
 use numbers::put_numbers;

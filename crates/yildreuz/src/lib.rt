@@ -1,9 +1,9 @@
 // The readers, the writers, the conversions and the calls on a session for a host in another language: host/yildreuz.h declares these functions, and the structs of `face`, in C.
 ghost use mathlib.Core.Path.{_≡_};
-ghost use Rattle.text.specs.Dialects.{writeNumbersOf, toNumbersOf, toNamesOf};
+ghost use Rattle.text.specs.Dialects.{toNumbersOf, toNamesOf};
 ghost use Rattle.text.specs.NumberReading.{readNumbersOf};
 ghost use Rattle.text.specs.Reading.{readOf};
-ghost use Rattle.text.specs.Writing.{writeOf};
+ghost use Rattle.text.specs.Writing.{writeOf, writeNumbersOf};
 ghost use Rattle.calls.specs.Calls.{openOf, forwardOf, backOf, goToOf};
 ghost use Rattle.calls.specs.Visits.{backToOf, forwardToOf};
 ghost use Rattle.calls.specs.Moves.{outcomeOf};

@@ -6,8 +6,7 @@ use lib.ListN.{length, getD, length-set}
 use borrow.Author.Needs.{needs}
 use borrow.Fn.Kinds.{In}
 use borrow.Fn.PlainCycle.{Measures, is, falls, and}
-use Rattle.text.specs.Bytes.{lambda}
-use Rattle.text.specs.Written.{space}
+use Rattle.text.specs.Bytes.{lambda, space}
 use Rattle.text.specs.NumberGrammar.{atSign}
 use Rattle.reader.proofs.Phrases.{spaced-read, spaced-none, abstraction-read, application-none, application-read}
 use Rattle.reader.proofs.numbers.phrase.Reads as phrase
