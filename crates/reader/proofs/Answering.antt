@@ -14,8 +14,8 @@ use Rattle.term.specs.Term.{Term, var, lam, app, size, Closed}
 use Rattle.term.specs.Table.{tableOf}
 use Rattle.term.specs.Code.{codeOf}
 use Rattle.text.specs.Reading.{Read, tooShort, refused, laidOut, answer}
-use Rattle.reader.specs.Layout.{Whole, anyZero}
-use Rattle.reader.specs.Answering.{Codes, InCode, answerFor}
+use Rattle.reader.specs.Layout.{Whole}
+use Rattle.reader.specs.Answering.{anyZero, Codes, InCode, answerFor}
 use Rattle.reader.proofs.Parts.{code-length}
 use Rattle.reader.proofs.Nameless.{zero-append}
 

@@ -1,17 +1,27 @@
 -- The code of applied atoms: a mark for each application, and then the atoms' codes in a row. The names around a place.
 use mathlib.Core.Path.{_≡_, sym, ap, _∙_}
 use mathlib.Core.List.{List, [], _∷_, _++_, append-nil, append-assoc}
-use Prim.Native.Nat.{ℕ, _+_, _≤_, _<_}
+use Prim.Native.Nat.{ℕ, suc, _+_, _≤_, _<_}
 use native.Mathlib.Numerals.{add-one}
 use native.Mathlib.Omega.{arith}
 use lib.ListN.{length, take, set, replicate, length-set}
 use lib.Seq.{take-take, take-set-le, take-suc-set}
 use Rattle.text.specs.Tokens.{Name}
 use Rattle.text.specs.Grammar.{Tree, apply, Atoms, no-more, _and_, atomTree, applied}
-use Rattle.reader.specs.Scanning.{nameAt, namesAt, treeCode}
-use Rattle.reader.specs.Answers.{atomCode, atomsCode, atomCount, Cursor, cursor, namesAround, CodeRoom}
+use Rattle.reader.specs.Scanning.{nameAt, namesAt}
+use Rattle.reader.specs.Grammar.{treeCode, atomCode, Cursor, cursor, namesAround, CodeRoom}
 use Rattle.reader.proofs.Scanning.{namesAt-snoc}
 use Rattle.reader.proofs.Moved.{slide}
+
+-- The code of atoms after the first, in a row.
+abbrev pub atomsCode : Atoms → List Name → List ℕ
+atomsCode no-more names = []
+atomsCode (b and bs) names = atomCode b names ++ atomsCode bs names
+
+-- how many there are
+abbrev pub atomCount : Atoms → ℕ
+atomCount no-more = 0
+atomCount (b and bs) = suc (atomCount bs)
 
 pub applied-code : (bs : Atoms) (t : Tree) (names : List Name)
     → treeCode (applied bs t) names ≡ replicate (atomCount bs) 2 ++ (treeCode t names ++ atomsCode bs names)

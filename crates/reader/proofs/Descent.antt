@@ -13,14 +13,15 @@ use Rattle.text.specs.Bytes.{lambda, dot, opening, closing}
 use Rattle.text.specs.Tokens.{Name, Token}
 use Rattle.text.specs.Grammar.{Phrase, abstraction, atoms, Atoms, no-more, _and_, named, bracketed}
 use Rattle.text.specs.Parsed.{parsed}
-use Rattle.text.specs.Parse.{afterMark, nameFirst, startsAtom}
+use Rattle.text.specs.Parse.{afterMark, nameFirst, startsAtom, phraseFrom}
 use Rattle.text.specs.Binding.{indexOf}
-use Rattle.reader.specs.Scanning.{nameAt, variableWord, treeCode}
-use Rattle.reader.specs.Answers.{phraseFrom, atomsFrom, atomFrom, abstractionFrom, applicationFrom, bracketedFrom, phraseCode, atomCode, atomsCode, Cursor, cursor, tokensFrom, namesAround, atomCount, ReadTo, CodeAnswer, Marked, MarkTo, NameTo}
+use Rattle.reader.specs.Scanning.{nameAt}
+use Rattle.reader.specs.Token.{tokensFrom, MarkTo, NameTo}
+use Rattle.reader.specs.Grammar.{atomsFrom, atomFrom, abstractionFrom, applicationFrom, bracketedFrom, variableWord, treeCode, phraseCode, atomCode, Cursor, cursor, namesAround, ReadTo, CodeAnswer, Marked}
 use Rattle.reader.specs.declared.grammar.Got.{Got}
 use Rattle.reader.specs.declared.grammar.Got.the-variants.{Read, Not}
 use Rattle.reader.proofs.Unrolled.{phrase-from, atoms-from, atom-from, asPhrase, application-from}
-use Rattle.reader.proofs.Coding.{applied-code, around-kept, body, around-body, body-kept}
+use Rattle.reader.proofs.Coding.{atomsCode, atomCount, applied-code, around-kept, body, around-body, body-kept}
 
 -- Atoms were read up to p, k of them, and their codes stand in a row in front of word m.
 pub record RunTo (w : Cursor) (p m k : ℕ) (scope′ out′ : List ℕ) : Type 0 where

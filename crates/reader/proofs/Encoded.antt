@@ -11,9 +11,10 @@ use lib.Seq.{sets, sets-eq}
 use Rattle.text.specs.Tokens.{tokens}
 use Rattle.text.specs.Grammar.{phraseTree}
 use Rattle.text.specs.Parsed.{isEmpty}
-use Rattle.text.specs.Parse.{parse}
-use Rattle.reader.specs.Scanning.{gapRun, namesAt, treeCode}
-use Rattle.reader.specs.Answers.{cursor, ReadTo, phraseFrom, phraseCode}
+use Rattle.text.specs.Parse.{phraseFrom, parse}
+use Rattle.text.specs.Binding.{nameless}
+use Rattle.reader.specs.Scanning.{gapRun, namesAt}
+use Rattle.reader.specs.Grammar.{treeCode, phraseCode, cursor, ReadTo}
 use Rattle.reader.specs.Steps.{CodedTo}
 use Rattle.text.proofs.Tokens.{tokens-nil, tokens-mark}
 use Rattle.text.proofs.Parse.{parse-exactly}
@@ -61,12 +62,12 @@ module _ (text scope code scope′ code′ : List ℕ) (p n end : ℕ)
   unfolding namesAt
   words-wrote = r .wrote
 
-  pub text-coded : length text ≤ end → length text ≤ 3000 → 6000 ≤ length code → CodedTo text n code′
+  pub text-coded : length text ≤ end → length text ≤ 3000 → 6000 ≤ length code → CodedTo (parse (tokens text)) (λ p. nameless (phraseTree p) []) n code′
   text-coded h short room =
       let few : length codeWords ≤ length text =
       omega (arith, tree-code-length (phraseTree (r .value)) [], few-nodes text (r .value) (parse-exactly (tokens text) (r .value) .0 (text-is h))) in
       record {
-        phrase = r .value;
+        value = r .value;
         is = text-is h;
         in-code = record {
           words = codeWords;

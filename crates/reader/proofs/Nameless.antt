@@ -16,9 +16,8 @@ use Rattle.term.specs.Code.{codeOf}
 use Rattle.text.specs.Tokens.{Name}
 use Rattle.text.specs.Grammar.{Tree, variable, binder, apply}
 use Rattle.text.specs.Binding.{indexOf, nameless}
-use Rattle.reader.specs.Scanning.{variableWord, treeCode}
-use Rattle.reader.specs.Layout.{anyZero}
-use Rattle.reader.specs.Answering.{Codes}
+use Rattle.reader.specs.Grammar.{variableWord, treeCode}
+use Rattle.reader.specs.Answering.{anyZero, Codes}
 use Rattle.text.proofs.Each.{Each, each-bind}
 use Rattle.text.proofs.Binding.{nameless-closed}
 use Rattle.text.proofs.Size.{nodes}

@@ -13,7 +13,8 @@ use borrow.Author.Tests.{eq-eqb, ne-eqb}
 use Rattle.term.specs.Choice.{_>>=_}
 use Rattle.text.specs.Tokens.{Name}
 use Rattle.text.specs.Binding.{sameName, indexOf}
-use Rattle.reader.specs.Scanning.{nameRun, nameAt, namesAt, variableWord}
+use Rattle.reader.specs.Scanning.{nameRun, nameAt, namesAt}
+use Rattle.reader.specs.Grammar.{variableWord}
 use Rattle.reader.proofs.Scanning.{name-length, namesAt-snoc}
 
 -- Names of two lengths are two names.

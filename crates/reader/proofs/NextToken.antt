@@ -15,7 +15,7 @@ use Rattle.text.specs.Bytes.{sign, classOf, inName, opening}
 use Rattle.text.specs.Tokens.{tokens}
 use Rattle.text.specs.Parse.{afterMark, nameFirst, startsAtom}
 use Rattle.reader.specs.Scanning.{nameRun, gapRun}
-use Rattle.reader.specs.Answers.{tokensFrom, MarkTo, NameTo}
+use Rattle.reader.specs.Token.{tokensFrom, MarkTo, NameTo}
 use Rattle.text.proofs.Tokens.{tokens-nil, tokens-mark}
 use Rattle.reader.proofs.Scanning.{gap-fits, name-fits, skip-tokens, no-gap, name-tokens, first-token}
 

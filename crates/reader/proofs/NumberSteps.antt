@@ -19,9 +19,10 @@ use Rattle.text.specs.NumberParse.{digitsFirst, parseNumbers}
 use Rattle.text.specs.NumberReading.{closedOnly, numbersMeant, numbersNumber, readNumbersOf}
 use Rattle.text.proofs.NumberGrammar.{phrase-exactly, text-long}
 use Rattle.text.proofs.NumberParse.{numbers-exactly, one-reading}
-use Rattle.reader.specs.Layout.{anyZero}
-use Rattle.reader.specs.Answering.{Codes, answerFor}
-use Rattle.reader.specs.Numbers.{codeUnder, Begins, NoPhrase, PhraseTo, NumbersCodedTo}
+use Rattle.reader.specs.Grammar.{variableWord}
+use Rattle.reader.specs.Answering.{anyZero, Codes, answerFor}
+use Rattle.reader.specs.Steps.{CodedTo}
+use Rattle.reader.specs.Numbers.{codeUnder, Begins, NoPhrase, PhraseTo}
 use Rattle.reader.proofs.Nameless.{zero-append}
 use Rattle.reader.proofs.Answering.{last-two}
 
@@ -40,7 +41,7 @@ zero-open : (t : Term) (d : ℕ) → anyZero (codeUnder t d) ≡ not (isClosedUn
 unfolding codeUnder
 zero-open (var k) d = by-test (ltb k d)
   where
-    by-test : (b : Bool) → anyZero (cond b (3 + k) 0 ∷ []) ≡ not b
+    by-test : (b : Bool) → anyZero (variableWord (cond b (some k) none) ∷ []) ≡ not b
     by-test true = rw (ne-eqb (3 + k) 0 (λ e. omega arith))
     by-test false = refl
 zero-open (lam b) d = zero-open b (suc d)
@@ -87,7 +88,7 @@ module _ (text code code′ : List ℕ) (p n : ℕ) (r : PhraseTo [] text 0 0 co
       let same = one-reading t (r .value) [] (drop p text) (b .ends) (r .begins .ends) (b .spells ∙ sym (r .begins .spells)) in
       omega (arith, ap length (same .1), length-drop p text))
 
-  pub numbers-coded : length text ≤ p → length text ≤ 3000 → 3000 ≤ length code → NumbersCodedTo text n code′
+  pub numbers-coded : length text ≤ p → length text ≤ 3000 → 3000 ≤ length code → CodedTo (parseNumbers text) closedOnly n code′
   numbers-coded h short room =
       let words = codeUnder (r .value) 0 in
       let left : drop p text ≡ [] = drop-of-length-le text h in
@@ -95,7 +96,7 @@ module _ (text code code′ : List ℕ) (p n : ℕ) (r : PhraseTo [] text 0 0 co
       let few : length words ≤ length text =
       omega (arith, code-size (r .value) 0, text-long (r .value), ap length (spelt .spells), length-append (numberText (r .value)) []) in
       record {
-        term = r .value;
+        value = r .value;
         is = text-spelt text (r .value) spelt;
         in-code = record {
           words = words;

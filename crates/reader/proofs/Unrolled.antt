@@ -12,11 +12,15 @@ use Rattle.text.specs.Bytes.{lambda, dot, opening}
 use Rattle.text.specs.Tokens.{Token, mark, name}
 use Rattle.text.specs.Grammar.{Phrase, atoms, Atoms, no-more, _and_, Atom, named, atomTokens}
 use Rattle.text.specs.Parsed.{Parsed, parsed}
-use Rattle.text.specs.Parse.{afterMark, nameFirst, startsAtom, phraseAt, atomsAt, atomAt}
-use Rattle.reader.specs.Answers.{phraseFrom, atomsFrom, atomFrom, abstractionFrom, applicationFrom, moreFrom, bracketedFrom}
+use Rattle.text.specs.Parse.{afterMark, nameFirst, startsAtom, phraseAt, atomsAt, atomAt, phraseFrom}
+use Rattle.reader.specs.Grammar.{atomsFrom, atomFrom, abstractionFrom, applicationFrom, bracketedFrom}
 use Rattle.text.proofs.Each.{Each, bind-same, bind-steady, bind-ap, if-same, choose-same}
 use Rattle.text.proofs.Spelt.{Spelt, nameTokens, after-spelt, name-spelt, atom-spelt, atom-shorter}
 use Rattle.text.proofs.Steady.{phrase-steady, atoms-steady, atom-steady}
+
+-- atoms after the first, where one begins
+abbrev moreFrom : List Token → Option (Parsed Atoms Token)
+moreFrom ts = atomFrom ts >>= λ b. atomsFrom (b .left) >>= λ bs. some (parsed (b .value and bs .value) (bs .left))
 
 -- deep enough is as deep as they need
 phrase-deep : (f : ℕ) (ts : List Token) → 3 * length ts + 3 ≤ f → phraseAt f ts ≡ phraseFrom ts

@@ -10,17 +10,15 @@ use lib.Dec.{ltb}
 use Rattle.term.specs.Term.{Term, var, lam, app}
 use Rattle.text.specs.Bytes.{lambda}
 use Rattle.text.specs.NumberGrammar.{atSign, numberText}
-use Rattle.text.specs.NumberParse.{digitsFirst, parseNumbers}
-use Rattle.text.specs.NumberReading.{closedOnly}
-use Rattle.reader.specs.Answering.{InCode}
-use Rattle.reader.specs.declared.Coded.{Coded}
-use Rattle.reader.specs.declared.Coded.the-variants.{Words, NoTerm}
+use Rattle.text.specs.Reading.{mostBytes}
+use Rattle.text.specs.NumberParse.{digitsFirst}
+use Rattle.reader.specs.Grammar.{variableWord}
 use Rattle.reader.specs.declared.grammar.Got.{Got}
 use Rattle.reader.specs.declared.grammar.Got.the-variants.{Read, Not}
 
--- The word of a number under d binders: 3 plus the number, and 0 where it reaches past the outermost.
+-- The word of a number under d binders: that of a variable without a binder where it reaches past the outermost.
 abbrev pub wordUnder : ℕ → ℕ → ℕ
-wordUnder d k = cond (ltb k d) (3 + k) 0
+wordUnder d k = variableWord (cond (ltb k d) (some k) none)
 
 -- The code of a term under d binders: as a term's code, but for these words.
 unfoldable pub codeUnder : Term → ℕ → List ℕ
@@ -40,7 +38,7 @@ NoPhrase before text at = (t : Term) (left : List ℕ) → Begins before (drop a
 -- Each byte that is left may give a word, and each byte before may be a binder.
 pub record PhraseRoom (text : List ℕ) (at depth : ℕ) (out : List ℕ) (node : ℕ) : Type 0 where
   pub within : at ≤ length text
-  pub short : length text ≤ 3000
+  pub short : length text ≤ mostBytes
   pub binders : depth ≤ at
   pub words : node + (length text - at) ≤ length out
 
@@ -63,13 +61,3 @@ PhraseRead before text at depth out node Not out′ = NoPhrase before text at
 abbrev pub NumberRead : List ℕ → ℕ → ℕ → List ℕ → ℕ → Got → List ℕ → Type 0
 NumberRead text at depth out node r out′ =
     (getD text at 0 ≡ lambda → ⊥) → (getD text at 0 ≡ atSign → ⊥) → PhraseRead [] text at depth out node r out′
-
--- What the text spells, in code.
-pub record NumbersCodedTo (text : List ℕ) (n : ℕ) (code : List ℕ) : Type 0 where
-  pub term : Term
-  pub is : parseNumbers text ≡ some term
-  pub in-code : InCode code n (closedOnly term)
-
-abbrev pub NumbersCoded : List ℕ → Coded → List ℕ → Type 0
-NumbersCoded text (Words n) code = NumbersCodedTo text n code
-NumbersCoded text NoTerm code = parseNumbers text ≡ none

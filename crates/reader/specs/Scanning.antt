@@ -1,13 +1,10 @@
 -- A text by positions: how far a name and a gap reach, and the names that stand at the positions of a scope.
 use mathlib.Core.Bool.{Bool, true, false, cond}
-use mathlib.Core.Option.{Option, none, some}
-use mathlib.Core.List.{List, [], _∷_, _++_}
-use Prim.Native.Nat.{ℕ, suc, _+_}
+use mathlib.Core.List.{List, [], _∷_}
+use Prim.Native.Nat.{ℕ, suc}
 use lib.ListN.{take, drop}
 use Rattle.text.specs.Bytes.{Class, letter, digit, blank, sign, foreign, classOf, inName}
 use Rattle.text.specs.Tokens.{Name}
-use Rattle.text.specs.Grammar.{Tree, variable, binder, apply}
-use Rattle.text.specs.Binding.{indexOf}
 
 -- neither a byte of a name nor a sign
 abbrev pub inGap : Class → Bool
@@ -38,13 +35,3 @@ nameAt text a = take (nameRun (drop a text)) (drop a text)
 unfoldable pub namesAt : List ℕ → List ℕ → List Name → List Name
 namesAt text [] around = around
 namesAt text (a ∷ scope) around = namesAt text scope (nameAt text a ∷ around)
-
--- The code of a tree among the names around it: as a term's code, and 0 for a name without a binder.
-abbrev pub variableWord : Option ℕ → ℕ
-variableWord none = 0
-variableWord (some k) = 3 + k
-
-unfoldable pub treeCode : Tree → List Name → List ℕ
-treeCode (variable x) around = variableWord (indexOf x around) ∷ []
-treeCode (binder x t) around = 1 ∷ treeCode t (x ∷ around)
-treeCode (apply f a) around = 2 ∷ (treeCode f around ++ treeCode a around)

@@ -5,7 +5,7 @@ ghost use lib.ListN.{length, getD};
 ghost use Rattle.text.specs.Bytes.{classOf};
 ghost use Rattle.reader.specs.Types.{classMeant, isOneOf};
 
-pub(crate) enum Class {
+enum Class {
     Letter,
     Digit,
     Blank,
@@ -13,7 +13,7 @@ pub(crate) enum Class {
     Foreign,
 }
 
-pub(crate) fn class_of(b: u8) -> Class
+fn class_of(b: u8) -> Class
     ensures { λ r. ⌜ classMeant r ≡ classOf b ⌝ }
 {
     match b {

@@ -1,7 +1,7 @@
 // Reading by the grammar: a term, an application and an atom, which call on each other, into the preorder code of what is read.
 ghost use Prim.Native.Nat.{_+_, _≤_};
 ghost use lib.ListN.{length};
-ghost use Rattle.reader.specs.Answers.{cursor, CodeRoom, TermRead, BodyRead, AtomsRead, AtomRead, InnerRead, Marked};
+ghost use Rattle.reader.specs.Grammar.{cursor, CodeRoom, TermRead, AbstractionRead, ApplicationRead, AtomRead, BracketsRead, Marked};
 use crate::scan::variable_word;
 use crate::token::After;
 use crate::token::First;
@@ -43,7 +43,7 @@ fn abstraction(
     node: usize,
 ) -> Got
     requires { ⌜ CodeRoom (cursor (now text) at (now scope) depth (now out) node) ⌝ }
-    ensures { λ r. ⌜ BodyRead (now (text .entry)) at (now (scope .entry)) depth (now (out .entry)) node r (now (scope .exit)) (now (out .exit)) ⌝ }
+    ensures { λ r. ⌜ AbstractionRead (now (text .entry)) at (now (scope .entry)) depth (now (out .entry)) node r (now (scope .exit)) (now (out .exit)) ⌝ }
 {
     let first = name_first(text, at);
     match first {
@@ -73,7 +73,7 @@ fn application(
     node: usize,
 ) -> Got
     requires { ⌜ CodeRoom (cursor (now text) at (now scope) depth (now out) node) ⌝ }
-    ensures { λ r. ⌜ AtomsRead (now (text .entry)) at (now (scope .entry)) depth (now (out .entry)) node r (now (scope .exit)) (now (out .exit)) ⌝ }
+    ensures { λ r. ⌜ ApplicationRead (now (text .entry)) at (now (scope .entry)) depth (now (out .entry)) node r (now (scope .exit)) (now (out .exit)) ⌝ }
 {
     let mut p = at;
     let mut m = node;
@@ -136,7 +136,7 @@ fn brackets(
     node: usize,
 ) -> Got
     requires { ⌜ CodeRoom (cursor (now text) at (now scope) depth (now out) node) ⌝ }
-    ensures { λ r. ⌜ InnerRead (now (text .entry)) at (now (scope .entry)) depth (now (out .entry)) node r (now (scope .exit)) (now (out .exit)) ⌝ }
+    ensures { λ r. ⌜ BracketsRead (now (text .entry)) at (now (scope .entry)) depth (now (out .entry)) node r (now (scope .exit)) (now (out .exit)) ⌝ }
 {
     let inner = term(text, at, scope, depth, out, node);
     match inner {

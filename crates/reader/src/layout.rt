@@ -1,26 +1,11 @@
 // The rows of a closed term, from its preorder code.
 ghost use mathlib.Core.Path.{_≡_};
 ghost use Prim.Native.Nat.{_+_, _*_, _≤_, _<_};
-ghost use lib.ListN.{length, take};
+ghost use lib.ListN.{length};
 ghost use lib.Seq.{sets};
 ghost use Rattle.term.specs.Term.{Term};
 ghost use Rattle.term.specs.Table.{row};
-ghost use Rattle.reader.specs.Layout.{Layable, RowsLaid, Whole, TableLaid, anyZero};
-
-// Whether one of the first n words is 0.
-pub(crate) fn any_zero(code: &[u32], n: usize) -> bool
-    requires { ⌜ n ≤ length (now code) ⌝ }
-    ensures { λ r. ⌜ r ≡ anyZero (take n (now (code .entry))) ⌝ }
-{
-    let mut i = 0;
-    while i < n {
-        if code[i] == 0 {
-            return true;
-        }
-        i += 1;
-    }
-    false
-}
+ghost use Rattle.reader.specs.Layout.{Layable, RowsLaid, Whole, TableLaid};
 
 // The row of the node that comes after `laid` others. Document 01, "The term table": "Each node has five words, in this order".
 fn put_row(table: &mut [u32], laid: u32, kind: u32, left: u32, right: u32, parent: u32, level: u32)

@@ -2,14 +2,13 @@
 ghost use mathlib.Core.Path.{_≡_};
 ghost use mathlib.Core.Option.{Option};
 ghost use Prim.Native.Nat.{_≤_};
-ghost use lib.ListN.{length};
+ghost use lib.ListN.{length, take};
 ghost use Rattle.term.specs.Term.{Term};
 ghost use Rattle.text.specs.Reading.{readOf};
 ghost use Rattle.text.specs.NumberReading.{readNumbersOf};
 ghost use Rattle.reader.specs.Types.{readMeant, refusedReading};
-ghost use Rattle.reader.specs.Answering.{InCode, AnsweredFor};
-ghost use Rattle.reader.specs.Steps.{spellingNumber, CodedIs};
-ghost use Rattle.reader.specs.Numbers.{NumbersCoded};
+ghost use Rattle.reader.specs.Answering.{anyZero, InCode, AnsweredFor};
+ghost use Rattle.reader.specs.Steps.{spellingNumber, NamesCoded, NumbersCoded};
 use grammar::Got;
 
 mod bytes;
@@ -90,7 +89,7 @@ enum Coded {
 // The preorder code of the term that the text spells, with 0 for a name without a binder. There is room for two words for each byte.
 fn code_of(text: &[u8], code: &mut [u32]) -> Coded
     requires { ⌜ (length (now text) ≤ 3000) × (6000 ≤ length (now code)) ⌝ }
-    ensures { λ r. ⌜ CodedIs (now (text .entry)) r (now (code .exit)) ⌝ }
+    ensures { λ r. ⌜ NamesCoded (now (text .entry)) r (now (code .exit)) ⌝ }
 {
     let mut scope = [0u32; 3000];
     let got = grammar::term(text, 0, &mut scope, 0, code, 0);
@@ -124,13 +123,28 @@ fn numbers_code(text: &[u8], code: &mut [u32]) -> Coded
     }
 }
 
+// Whether one of the first n words is 0.
+fn any_zero(code: &[u32], n: usize) -> bool
+    requires { ⌜ n ≤ length (now code) ⌝ }
+    ensures { λ r. ⌜ r ≡ anyZero (take n (now (code .entry))) ⌝ }
+{
+    let mut i = 0;
+    while i < n {
+        if code[i] == 0 {
+            return true;
+        }
+        i += 1;
+    }
+    false
+}
+
 // The number of a variable without a binder, number 6, and the table where neither applies.
 fn answer_for(code: &[u32], n: usize, unbound: u32, table: &mut [u32]) -> Reading
     requires { ⌜ ((o : Option Term) × InCode (now code) n o) ⌝ }
     ensures { λ r. ⌜ AnsweredFor (now (code .entry)) n unbound r (now (table .entry)) (now (table .exit)) ⌝ }
 {
     let count = n as u32;
-    if layout::any_zero(code, n) {
+    if any_zero(code, n) {
         return refused(unbound);
     }
     if table.len() < 5 * n {

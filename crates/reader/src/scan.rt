@@ -7,8 +7,9 @@ ghost use Rattle.text.specs.Tokens.{tokens, isBadName, anyBadName};
 ghost use Rattle.text.specs.Binding.{sameName, indexOf};
 ghost use Rattle.text.specs.Reading.{anyForeign};
 ghost use Rattle.text.specs.NumberParse.{digitsFirst};
-ghost use Rattle.reader.specs.Scanning.{runOf, nameRun, gapRun, nameAt, namesAt, variableWord};
+ghost use Rattle.reader.specs.Scanning.{runOf, nameRun, gapRun, nameAt, namesAt};
 ghost use Rattle.reader.specs.Types.{isOneOf};
+ghost use Rattle.reader.specs.Grammar.{variableWord};
 use crate::bytes::Classes;
 use crate::bytes::DIGIT;
 use crate::bytes::IN_GAP;
@@ -91,7 +92,7 @@ pub(crate) fn any_bad_name(text: &[u8]) -> bool
 }
 
 // Whether the names that stand at two positions are the same.
-pub(crate) fn same_name(text: &[u8], a: usize, b: usize) -> bool
+fn same_name(text: &[u8], a: usize, b: usize) -> bool
     ensures { λ r. ⌜ r ≡ sameName (nameAt (now (text .entry)) a) (nameAt (now (text .entry)) b) ⌝ }
 {
     let n = name_end(text, a) - a;

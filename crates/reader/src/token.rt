@@ -4,7 +4,7 @@ ghost use Prim.Native.Nat.{_≤_};
 ghost use lib.ListN.{length};
 ghost use Rattle.text.specs.Bytes.{sign, classOf};
 ghost use Rattle.text.specs.Parse.{startsAtom};
-ghost use Rattle.reader.specs.Answers.{tokensFrom, AfterIs, FirstIs};
+ghost use Rattle.reader.specs.Token.{tokensFrom, AfterIs, FirstIs};
 use crate::bytes::IN_NAME;
 use crate::bytes::byte;
 use crate::bytes::is_one_of;

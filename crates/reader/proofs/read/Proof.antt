@@ -39,7 +39,7 @@ slice-aggregate-answer-for c = search needs
 answer-for-requires : tie.Need-answer-for-requires
 answer-for-requires c κs =
     let k = rw (c .before .before .before .coded .given .1) at (c .before .before .before .before .before .before .code-of .ensures) in
-    (nameless (phraseTree (k .phrase)) [], k .in-code)
+    (nameless (phraseTree (k .value)) [], k .in-code)
 
 enum-told : tie.Need-enum-told
 enum-told c = search needs
@@ -54,8 +54,8 @@ returns-2 : tie.Need-returns-2
 returns-2 c =
     let a = c .before .before .before .before .before .before .before .before .before .before .before .before .before .before .before .args in
     let k = rw (c .before .before .before .before .before .before .coded .given .1) at (c .before .before .before .before .before .before .before .before .before .code-of .ensures) in
-    c .before .before .answer-for .ensures (nameless (phraseTree (k .phrase)) []) (k .in-code)
-    ∙ sym (a-phrase (a .text .now) (a .table .now) (sym (c .before .before .before .before .before .before .before .before .before .before .before .if1 .left) ∙ c .before .before .before .before .before .before .before .before .before .before .before .before .spelling-number .ensures) (k .phrase) (k .is))
+    c .before .before .answer-for .ensures (nameless (phraseTree (k .value)) []) (k .in-code)
+    ∙ sym (a-phrase (a .text .now) (a .table .now) (sym (c .before .before .before .before .before .before .before .before .before .before .before .if1 .left) ∙ c .before .before .before .before .before .before .before .before .before .before .before .before .spelling-number .ensures) (k .value) (k .is))
 
 returns-3 : tie.Need-returns-3
 returns-3 c =

@@ -16,15 +16,15 @@ returns c =
 answer-for-requires : tie.Need-answer-for-requires
 answer-for-requires c κs =
     let k = rw (c .before .before .before .coded .given .1) at (c .before .before .before .before .before .before .numbers-code .ensures) in
-    (closedOnly (k .term), k .in-code)
+    (closedOnly (k .value), k .in-code)
 
 returns-2 : tie.Need-returns-2
 returns-2 c =
     let start = c .before .before .before .before .before .before .before .before .before .before .before .before .before .before in
     let a = start .args in
     let k = rw (c .before .before .before .before .before .before .coded .given .1) at (c .before .before .before .before .before .before .before .before .before .numbers-code .ensures) in
-    c .before .before .answer-for .ensures (closedOnly (k .term)) (k .in-code)
-    ∙ sym (a-phrase (a .text .now) (a .table .now) (omega (arith, c .before .before .before .before .before .before .before .before .before .before .before .if1 .left)) (k .term) (k .is))
+    c .before .before .answer-for .ensures (closedOnly (k .value)) (k .in-code)
+    ∙ sym (a-phrase (a .text .now) (a .table .now) (omega (arith, c .before .before .before .before .before .before .before .before .before .before .before .if1 .left)) (k .value) (k .is))
 
 returns-3 : tie.Need-returns-3
 returns-3 c =

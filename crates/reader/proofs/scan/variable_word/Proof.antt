@@ -4,7 +4,8 @@ use Prim.Native.Nat.{_-_, _≤_}
 use native.Mathlib.Omega.{arith}
 use borrow.Author.Needs.{needs}
 use Rattle.text.specs.Binding.{indexOf}
-use Rattle.reader.specs.Scanning.{nameAt, variableWord}
+use Rattle.reader.specs.Scanning.{nameAt}
+use Rattle.reader.specs.Grammar.{variableWord}
 use Rattle.reader.proofs.Naming.{past, past-none, boundNames, no-binders, its-binder, not-its-binder}
 use Rattle.reader.proofs.scan.variable_word.Statement.{statement}
 use Rattle.reader.proofs.scan.variable_word.Tie as tie

@@ -4,7 +4,7 @@ use mathlib.Core.Path.{_≡_, sym, _∙_}
 use native.Mathlib.Omega.{arith}
 use lib.ListN.{length}
 use borrow.Author.Needs.{needs}
-use Rattle.reader.specs.Answers.{Cursor, cursor}
+use Rattle.reader.specs.Grammar.{Cursor, cursor}
 use Rattle.reader.proofs.Descent.{application-none, application-done, Underway, underway-first, underway-more, underway-none, underway-last}
 use Rattle.reader.proofs.grammar.application.Reads as reads
 use Rattle.reader.proofs.grammar.+abstraction+application+atom+brackets+term.Lts-application as lts

@@ -3,7 +3,7 @@ use Prim.Native.Nat.{ℕ, _<_, _+_, _*_, _-_}
 use lib.ListN.{length}
 use borrow.Fn.Kinds.{In}
 use borrow.Fn.PlainCycle.{Measures, is, falls, and}
-use Rattle.reader.specs.Answers.{Cursor, cursor}
+use Rattle.reader.specs.Grammar.{Cursor, cursor}
 use Rattle.reader.proofs.grammar.abstraction.Reads as abstraction
 use Rattle.reader.proofs.grammar.abstraction.Kinds as abstraction-kinds
 use Rattle.reader.proofs.grammar.+abstraction+application+atom+brackets+term.Lts-abstraction as abstraction-lts

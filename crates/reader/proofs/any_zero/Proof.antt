@@ -3,10 +3,10 @@ use mathlib.Core.Path.{_≡_, refl, sym, _∙_}
 use Prim.Native.Nat.{_≤_, _-_}
 use native.Mathlib.Omega.{arith}
 use lib.ListN.{length, take, drop}
-use Rattle.reader.specs.Layout.{anyZero}
+use Rattle.reader.specs.Answering.{anyZero}
 use Rattle.reader.proofs.Nameless.{zero-here, zero-later, zero-nowhere}
-use Rattle.reader.proofs.layout.any_zero.Statement.{statement}
-use Rattle.reader.proofs.layout.any_zero.Tie as tie
+use Rattle.reader.proofs.any_zero.Statement.{statement}
+use Rattle.reader.proofs.any_zero.Tie as tie
 
 abbrev Inv-loop : tie.InvT-loop
 Inv-loop code n i₀ i = (i ≤ n) × (n ≤ length code) × (anyZero (take n code) ≡ anyZero (drop i (take n code)))
