@@ -1,12 +1,12 @@
 -- The text of a whole table, put from the first byte on: that there is room for it, what `write_in` measures, and what it leaves.
-use mathlib.Core.Path.{_≡_, sym, ap}
+use mathlib.Core.Path.{_≡_, sym, ap, _∙_}
 use mathlib.Core.Bool.{false}
 use mathlib.Core.List.{List, [], _++_}
 use Prim.Native.Nat.{ℕ, _≤_, _<_}
 use native.Mathlib.Omega.{arith}
 use lib.ListN.{length}
 use borrow.Author.Tests.{lt-ltb, le-ltb}
-use Rattle.term.specs.Accepted.{Accepted}
+use Rattle.term.specs.Accepted.{Accepted, accepted}
 use Rattle.term.proofs.Rows.{table-stands}
 use Rattle.term.proofs.Accepted.{term-size}
 use Rattle.text.specs.Reading.{mostBytes}
@@ -14,7 +14,8 @@ use Rattle.text.specs.Written.{textOf}
 use Rattle.text.specs.Writing.{refused}
 use Rattle.text.specs.Dialects.{Dialect, names, textIn, writeIn}
 use Rattle.text.proofs.Names.{text-short}
-use Rattle.text.proofs.Writing.{writes-eleven, writes-text}
+use Rattle.text.proofs.Writing.{writes-seven, writes-eleven, writes-text}
+use Rattle.text.proofs.Dialects.{write-in}
 use Rattle.writer.specs.Putting.{Puttable, PartPut, TextPut}
 use Rattle.writer.proofs.Putting.{put-nothing, put-whole}
 
@@ -34,6 +35,9 @@ module _ (w : List ℕ) (n : ℕ) where
   names-put x A = x (A .term) [] (whole-puttable A)
 
 -- in either dialect
+pub no-table : (d : Dialect) (w : List ℕ) (n : ℕ) (text : List ℕ) → accepted w n ≡ false → refused 7 text ≡ writeIn d w n text
+no-table d w n text e = sym (write-in d w n text ∙ writes-seven (textIn d) w n text e)
+
 module _ (d : Dialect) (w : List ℕ) (n : ℕ) (A : Accepted w n) where
   abbrev termText : List ℕ
   termText = textIn d (A .term)
@@ -47,15 +51,15 @@ module _ (d : Dialect) (w : List ℕ) (n : ℕ) (A : Accepted w n) where
 
   module _ (text : List ℕ) (len : ℕ) (len-is : len ≡ length termText) where
     pub too-long : mostBytes < len → refused 11 text ≡ writeIn d w n text
-    too-long h = sym (writes-eleven (textIn d) w n text A (rw (lt-ltb mostBytes (length termText) (omega arith))))
+    too-long h = sym (write-in d w n text ∙ writes-eleven (textIn d) w n text A (rw (lt-ltb mostBytes (length termText) (omega arith))))
 
     pub too-much : len ≤ mostBytes → length text < len → refused 11 text ≡ writeIn d w n text
     too-much l h =
-        sym (writes-eleven (textIn d) w n text A (rw (le-ltb mostBytes (length termText) (omega arith), lt-ltb (length text) (length termText) (omega arith))))
+        sym (write-in d w n text ∙ writes-eleven (textIn d) w n text A (rw (le-ltb mostBytes (length termText) (omega arith), lt-ltb (length text) (length termText) (omega arith))))
 
     pub fitting : {r : ℕ} {text′ : List ℕ} → len ≤ mostBytes → len ≤ length text → TextPut d w n text r text′
         → record { len = len; refusal = 0; text = text′ } ≡ writeIn d w n text
     fitting {r} {text′} l h x =
         let e = put-whole text termText r text′ (omega arith) (x A) in
         rw (e, len-is)
-        (sym (writes-text (textIn d) w n text A (rw (le-ltb mostBytes (length termText) (omega arith), le-ltb (length text) (length termText) (omega arith)))))
+        (sym (write-in d w n text ∙ writes-text (textIn d) w n text A (rw (le-ltb mostBytes (length termText) (omega arith), le-ltb (length text) (length termText) (omega arith)))))

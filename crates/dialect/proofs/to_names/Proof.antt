@@ -1,25 +1,18 @@
 -- `to_names` reads a text of numbers, and has its table written with names, or refuses as the reader does.
-use mathlib.Core.Path.{ap, _∙_}
 use borrow.Author.Needs.{needs}
 use Rattle.text.specs.Dialects.{names, numbers, ownTable}
-use Rattle.writer.specs.Types.{writeMeant}
 use Rattle.dialect.proofs.Steps.{refused-converts, written-converts}
 use Rattle.dialect.proofs.to_names.Statement.{statement}
 use Rattle.dialect.proofs.to_names.Tie as tie
 
 returns : tie.Need-returns
 unfolding ownTable
-returns c =
-    let a = c .before .before .before .before .before .before .before .before .args in
-    ap (λ r. writeMeant r (a .out .now)) (c .refused .ensures)
-    ∙ refused-converts numbers names (a .text .now) (a .out .now) _ (c .before .before .before .before .read-numbers .ensures) (c .before .if1 .taken)
+returns c = refused-converts numbers names _ _ _ (c .before .before .before .before .read-numbers .ensures) (c .before .if1 .taken) (c .refused .ensures)
 
 returns-2 : tie.Need-returns-2
 unfolding ownTable
 returns-2 c =
-    let a = c .before .before .before .before .before .before .before .before .before .before .before .before .args in
-    c .before .before .write .ensures
-    ∙ written-converts numbers names (a .text .now) (a .out .now) _ (c .before .before .before .before .before .before .before .before .read-numbers .ensures) (c .before .before .before .before .before .if1 .left)
+    written-converts numbers names _ _ _ (c .before .before .before .before .before .before .before .before .read-numbers .ensures) (c .before .before .before .before .before .if1 .left) (c .before .before .write .ensures)
 
 pub to-names-spec : {M : Type 1} → statement M
 to-names-spec =

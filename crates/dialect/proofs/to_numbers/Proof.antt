@@ -1,25 +1,18 @@
 -- `to_numbers` reads a text with names, and has its table written in numbers, or refuses as the reader does.
-use mathlib.Core.Path.{ap, _∙_}
 use borrow.Author.Needs.{needs}
 use Rattle.text.specs.Dialects.{names, numbers, ownTable}
-use Rattle.writer.specs.Types.{writeMeant}
 use Rattle.dialect.proofs.Steps.{refused-converts, written-converts}
 use Rattle.dialect.proofs.to_numbers.Statement.{statement}
 use Rattle.dialect.proofs.to_numbers.Tie as tie
 
 returns : tie.Need-returns
 unfolding ownTable
-returns c =
-    let a = c .before .before .before .before .before .before .before .before .args in
-    ap (λ r. writeMeant r (a .out .now)) (c .refused .ensures)
-    ∙ refused-converts names numbers (a .text .now) (a .out .now) _ (c .before .before .before .before .read .ensures) (c .before .if1 .taken)
+returns c = refused-converts names numbers _ _ _ (c .before .before .before .before .read .ensures) (c .before .if1 .taken) (c .refused .ensures)
 
 returns-2 : tie.Need-returns-2
 unfolding ownTable
 returns-2 c =
-    let a = c .before .before .before .before .before .before .before .before .before .before .before .before .args in
-    c .before .before .write-numbers .ensures
-    ∙ written-converts names numbers (a .text .now) (a .out .now) _ (c .before .before .before .before .before .before .before .before .read .ensures) (c .before .before .before .before .before .if1 .left)
+    written-converts names numbers _ _ _ (c .before .before .before .before .before .before .before .before .read .ensures) (c .before .before .before .before .before .if1 .left) (c .before .before .write-numbers .ensures)
 
 pub to-numbers-spec : {M : Type 1} → statement M
 to-numbers-spec =

@@ -6,17 +6,15 @@ use borrow.Author.Needs.{needs}
 use borrow.Author.Tests.{not-true, not-false}
 use Rattle.term.specs.Accepted.{Accepted}
 use Rattle.term.proofs.Accepted.{accepts-only}
-use Rattle.text.specs.Dialects.{textIn}
-use Rattle.text.proofs.Writing.{writes-seven}
 use Rattle.writer.specs.Types.{dialectMeant}
-use Rattle.writer.proofs.Whole.{measured, untouched, too-long, too-much, fitting}
+use Rattle.writer.proofs.Whole.{no-table, measured, untouched, too-long, too-much, fitting}
 use Rattle.writer.proofs.write_in.Statement.{statement}
 use Rattle.writer.proofs.write_in.Tie as tie
 
 returns : tie.Need-returns
 returns c =
     let a = c .before .before .before .before .before .args in
-    rw (c .refused .ensures) (sym (writes-seven (textIn (dialectMeant (a .dialect))) (a .table .now) (a .n) (a .text .now) (sym (c .before .before .accepts .ensures) ∙ not-true _ (c .before .if1 .taken))))
+    rw (c .refused .ensures) (no-table (dialectMeant (a .dialect)) (a .table .now) (a .n) (a .text .now) (sym (c .before .before .accepts .ensures) ∙ not-true _ (c .before .if1 .taken)))
 
 -- Past the first test the table is accepted.
 accepted-table : (e : tie.Else1) → Accepted (e .before .before .before .before .args .table .now) (e .before .before .before .before .args .n)
