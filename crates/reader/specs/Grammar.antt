@@ -36,11 +36,12 @@ applicationFrom ts = atomFrom ts >>= λ a. atomsFrom (a .left) >>= λ bs. some (
 abbrev pub bracketedFrom : List Token → Option (Parsed Atom Token)
 bracketedFrom ts = phraseFrom ts >>= λ p. afterMark closing (p .left) >>= λ us. some (parsed (bracketed (p .value)) us)
 
--- The code of a tree among the names around it: as a term's code, and 0 for a name without a binder.
+-- The word of a variable: 3 plus how many binders stand between it and its own, and 0 where it has none.
 abbrev pub variableWord : Option ℕ → ℕ
 variableWord none = 0
 variableWord (some k) = 3 + k
 
+-- The code of a tree among the names around it: as a term's code, but for the words of names without a binder.
 unfoldable pub treeCode : Tree → List Name → List ℕ
 treeCode (variable x) around = variableWord (indexOf x around) ∷ []
 treeCode (binder x t) around = 1 ∷ treeCode t (x ∷ around)

@@ -9,14 +9,14 @@ use lib.Seq.{sets}
 use lib.Dec.{ltb}
 use Rattle.term.specs.Term.{Term, var, lam, app}
 use Rattle.text.specs.Bytes.{lambda}
-use Rattle.text.specs.NumberGrammar.{atSign, numberText}
 use Rattle.text.specs.Reading.{mostBytes}
+use Rattle.text.specs.NumberGrammar.{atSign, numberText}
 use Rattle.text.specs.NumberParse.{digitsFirst}
 use Rattle.reader.specs.Grammar.{variableWord}
 use Rattle.reader.specs.declared.grammar.Got.{Got}
 use Rattle.reader.specs.declared.grammar.Got.the-variants.{Read, Not}
 
--- The word of a number under d binders: that of a variable without a binder where it reaches past the outermost.
+-- The word of a number under d binders: 3 plus the number, and 0 where it reaches past the outermost, so that it has no binder.
 abbrev pub wordUnder : ℕ → ℕ → ℕ
 wordUnder d k = variableWord (cond (ltb k d) (some k) none)
 

@@ -20,7 +20,7 @@ use Rattle.reader.specs.declared.Coded.the-variants.{Words, NoTerm}
 unfoldable pub spellingNumber : List ℕ → ℕ
 spellingNumber text = Option·getD (first (spellingTests text)) 0
 
--- What is found in a text was found, and its meaning stands in code.
+-- Something was found, and its meaning stands in code; or nothing was.
 pub record CodedTo {A : Type 0} (found : Option A) (meaning : A → Option Term) (n : ℕ) (code : List ℕ) : Type 0 where
   pub value : A
   pub is : found ≡ some value
@@ -30,7 +30,7 @@ abbrev pub CodedIs : {A : Type 0} → Option A → (A → Option Term) → Coded
 CodedIs found meaning (Words n) code = CodedTo found meaning n code
 CodedIs found meaning NoTerm code = found ≡ none
 
--- of a text with names, and of one in numbers
+-- What a text with names spells, and one in numbers, by what is parsed there.
 abbrev pub NamesCoded : List ℕ → Coded → List ℕ → Type 0
 NamesCoded text r code = CodedIs (parse (tokens text)) (λ p. nameless (phraseTree p) []) r code
 

@@ -10,7 +10,7 @@ use Rattle.term.specs.Table.{tableOf}
 use Rattle.term.specs.Accepted.{mostNodes, Accepted}
 use Rattle.term.proofs.Rows.{size-positive, rows-length}
 use Rattle.term.proofs.Accepted.{table-closed}
-use Rattle.text.specs.Exactly.{Means, Accepts}
+use Rattle.text.specs.Exactly.{Means, NamesMean, Accepts}
 use Rattle.text.proofs.Size.{nodes, few-nodes, size-nodes}
 use Rattle.text.proofs.Exactly.{nameless-meant, meant-closed}
 
@@ -44,12 +44,12 @@ laidAccepted t c few rest = record {
   same = sym (table-first t rest (tableOf t ++ rest) refl);
 }
 
-pub text-accepted : (text table : List ℕ) (n : ℕ) (words : List ℕ) → Accepts text table n words → Accepted words n × (n ≤ length text)
+pub text-accepted : (text table : List ℕ) (n : ℕ) (words : List ℕ) → Accepts (NamesMean text) table n words → Accepted words n × (n ≤ length text)
 text-accepted text table n words a =
     let t = a .term in
     let rest = drop (5 * n) table in
-    let few : size t ≤ length text = means-few text t (a .means) in
+    let few : size t ≤ length text = means-few text t (a .means .1) in
     let long = table-long t rest words (a .words-are) in
     let laid = table-first t rest words (a .words-are) in
-    let accepted = table-closed t (meant-closed text t (a .means)) (omega (arith, a .well-spelled .few-bytes)) words long laid in
+    let accepted = table-closed t (meant-closed text t (a .means .1)) (omega (arith, a .means .0 .few-bytes)) words long laid in
     (subst⁻¹ (Accepted words) (a .n-is) accepted, omega arith)

@@ -12,6 +12,7 @@ use Rattle.term.specs.Term.{Term, size, Closed}
 use Rattle.term.specs.Table.{tableOf}
 use Rattle.term.specs.Accepted.{mostNodes}
 use Rattle.text.specs.Reading.{Read, mostBytes, refused, laidOut, readOf}
+use Rattle.text.specs.Exactly.{AcceptedBy, SixBy, RefusedBy}
 use Rattle.text.specs.Writing.{writing}
 use Rattle.text.specs.NumberReading.{readNumbersOf}
 use Rattle.text.specs.Dialects.{Dialect, names, numbers, readIn, MeantIn, textIn, writeIn}
@@ -56,27 +57,29 @@ laid t table = cond (ltb (length table) (5 * size t)) (refused 6 table) (laidOut
 by-refusal : {k : ℕ} {table : List ℕ} (r : Read) → r .refusal ≡ k → (r .n ≡ 0) × (r .table ≡ table) → r ≡ refused k table
 by-refusal r e u = λ i. record { n = u .0 i; refusal = e i; table = u .1 i }
 
+-- What is said of both readers, of either.
+refused-by : (d : Dialect) → RefusedBy (readIn d)
+refused-by names = refused-reading-unchanged
+refused-by numbers = numbers-refused-unchanged
+
+six-by : (d : Dialect) → SixBy (readIn d) (MeantIn d)
+six-by names = six-exactly
+six-by numbers = numbers-six-exactly
+
+accepted-by : (d : Dialect) → AcceptedBy (readIn d) (MeantIn d)
+accepted-by names = accepted-exactly
+accepted-by numbers = numbers-accepted-exactly
+
 refused-in : (d : Dialect) (text table : List ℕ) (k : ℕ) → (k ≡ 0 → ⊥) → readIn d text table .refusal ≡ k → readIn d text table ≡ refused k table
-refused-in names text table k h e = by-refusal (readOf text table) e (refused-reading-unchanged text table (λ z. h (sym e ∙ z)))
-refused-in numbers text table k h e = by-refusal (readNumbersOf text table) e (numbers-refused-unchanged text table (λ z. h (sym e ∙ z)))
+refused-in d text table k h e = by-refusal (readIn d text table) e (refused-by d text table (λ z. h (sym e ∙ z)))
 
 pub reads-meant : (d : Dialect) (text : List ℕ) (t : Term) → MeantIn d text t → (table : List ℕ) → readIn d text table ≡ laid t table
-reads-meant d text t m table = by-room d (ltb (length table) (5 * size t)) refl m
+reads-meant d text t m table = by-room (ltb (length table) (5 * size t)) refl
   where
-    by-room : (d : Dialect) (b : Bool) → ltb (length table) (5 * size t) ≡ b → MeantIn d text t → readIn d text table ≡ cond b (refused 6 table) (laidOut t table)
-    by-room names true e m = refused-in names text table 6 (λ z. omega arith) (six-exactly text table .1 (m .0, (t, m .1, ltb-true (length table) (5 * size t) e)))
-    by-room numbers true e m = refused-in numbers text table 6 (λ z. omega arith) (numbers-six-exactly text table .1 (t, m, ltb-true (length table) (5 * size t) e))
-    by-room names false e m =
-        accepted-exactly text table (size t) (tableOf t ++ drop (5 * size t) table) .1 record {
-          well-spelled = m .0;
-          term = t;
-          means = m .1;
-          n-is = refl;
-          room = ltb-false (length table) (5 * size t) e;
-          words-are = refl;
-        }
-    by-room numbers false e m =
-        numbers-accepted-exactly text table (size t) (tableOf t ++ drop (5 * size t) table) .1 record {
+    by-room : (b : Bool) → ltb (length table) (5 * size t) ≡ b → readIn d text table ≡ cond b (refused 6 table) (laidOut t table)
+    by-room true e = refused-in d text table 6 (λ z. omega arith) (six-by d text table .1 (t, m, ltb-true (length table) (5 * size t) e))
+    by-room false e =
+        accepted-by d text table (size t) (tableOf t ++ drop (5 * size t) table) .1 record {
           term = t;
           means = m;
           n-is = refl;

@@ -17,7 +17,7 @@ use Rattle.text.specs.Grammar.{Phrase, Tree, phraseTree, Derives}
 use Rattle.text.specs.Parse.{parse}
 use Rattle.text.specs.Binding.{nameless, ClosedIn}
 use Rattle.text.specs.Reading.{Read, mostBytes, anyForeign, meant, tooShort, readerNumber, refused, laidOut, readOf}
-use Rattle.text.specs.Exactly.{NoForeign, GoodNames, WellSpelled, Means, Accepts, AcceptedExactly, OneExactly, TwoExactly, ThreeExactly, FourExactly, FiveExactly, SixExactly, RefusedReadingUnchanged}
+use Rattle.text.specs.Exactly.{NoForeign, GoodNames, WellSpelled, Means, NamesMean, Accepts, AcceptedExactly, OneExactly, TwoExactly, ThreeExactly, FourExactly, FiveExactly, SixExactly, RefusedReadingUnchanged}
 use Rattle.text.proofs.Parse.{parse-derives, parse-none, one-tree}
 use Rattle.text.proofs.Binding.{nameless-exactly, nameless-closed, unbound}
 
@@ -111,8 +111,26 @@ one-meaning text t u m l =
 pub meant-closed : (text : List ℕ) (t : Term) → Means text t → Closed t
 meant-closed text t m = nameless-closed (m .tree) [] t (nameless-meant text t m) .1
 
-same-refusal : {r s : Read} → r ≡ s → r .refusal ≡ s .refusal
+pub same-refusal : {r s : Read} → r ≡ s → r .refusal ≡ s .refusal
 same-refusal e = ap (λ (a : Read). a .refusal) e
+
+-- What is accepted of a text that means one term, by the table's room.
+module _ (meaning : Term → Type 0) (table : List ℕ) (t : Term) (n : ℕ) (words : List ℕ) where
+  pub short-accepts : length table < 5 * size t → ((u : Term) → meaning u → u ≡ t)
+      → (refused 6 table ≡ record { n = n; refusal = 0; table = words }) ↔ Accepts meaning table n words
+  short-accepts short one = (
+    λ e. absurd (omega (arith, same-refusal e)),
+    λ a. absurd (omega (arith, a .room, a .n-is, ap size (one (a .term) (a .means)))),
+  )
+
+  pub laid-accepts : meaning t → 5 * size t ≤ length table → ((u : Term) → meaning u → u ≡ t)
+      → (laidOut t table ≡ record { n = n; refusal = 0; table = words }) ↔ Accepts meaning table n words
+  laid-accepts m fits one = (
+    λ e.
+        let n-is : n ≡ size t = sym (ap (λ (a : Read). a .n) e) in
+        record { term = t; means = m; n-is = n-is; room = omega arith; words-are = sym (ap (λ (a : Read). a .table) e) ∙ rw n-is },
+    λ a. rw (a .words-are, a .n-is, one (a .term) (a .means)),
+  )
 
 only-closed : (text : List ℕ) (t : Tree) (u : Term) → Derives (tokens text) t → Means text u → ClosedIn t []
 only-closed text t u d m = subst (λ (s : Tree). ClosedIn s []) (one-tree (tokens text) (m .tree) t (m .derives) d) (m .closed)
@@ -164,15 +182,15 @@ module _ (text table : List ℕ) where
   five r (no-room s t m short) = (λ e. absurd (omega arith), λ h. absurd (h .1 .2 (only-closed text (h .1 .0) t (h .1 .1) m)))
   five r (a-term s t m fits) = (λ e. absurd (omega arith), λ h. absurd (h .1 .2 (only-closed text (h .1 .0) t (h .1 .1) m)))
 
-  six : (r : Read) → Finds text table r → (r .refusal ≡ 6) ↔ (WellSpelled text × ((t : Term) × Means text t × (length table < 5 * size t)))
-  six r (too-long long) = (λ e. absurd (omega arith), λ h. absurd (omega (arith, h .0 .few-bytes)))
-  six r (foreign-byte few dirt) = (λ e. absurd (omega arith), λ h. absurd (dirt (h .0 .no-foreign)))
-  six r (bad-name few clean bad) = (λ e. absurd (omega arith), λ h. absurd (bad (h .0 .good-names)))
+  six : (r : Read) → Finds text table r → (r .refusal ≡ 6) ↔ ((t : Term) × NamesMean text t × (length table < 5 * size t))
+  six r (too-long long) = (λ e. absurd (omega arith), λ h. absurd (omega (arith, h .1 .0 .few-bytes)))
+  six r (foreign-byte few dirt) = (λ e. absurd (omega arith), λ h. absurd (dirt (h .1 .0 .no-foreign)))
+  six r (bad-name few clean bad) = (λ e. absurd (omega arith), λ h. absurd (bad (h .1 .0 .good-names)))
   six r (no-tree s underived) = (λ e. absurd (omega arith), λ h. absurd (underived (h .1 .1 .tree) (h .1 .1 .derives)))
-  six r (open-tree s t d unclosed) = (λ e. absurd (omega arith), λ h. absurd (unclosed (only-closed text t (h .1 .0) d (h .1 .1))))
-  six r (no-room s t m short) = (λ e. (s, (t, m, short)), λ h. refl)
+  six r (open-tree s t d unclosed) = (λ e. absurd (omega arith), λ h. absurd (unclosed (only-closed text t (h .0) d (h .1 .1))))
+  six r (no-room s t m short) = (λ e. (t, (s, m), short), λ h. refl)
   six r (a-term s t m fits) =
-      (λ e. absurd (omega arith), λ h. absurd (omega (arith, h .1 .2, ap size (one-meaning text t (h .1 .0) m (h .1 .1)))))
+      (λ e. absurd (omega arith), λ h. absurd (omega (arith, h .2, ap size (one-meaning text t (h .0) m (h .1 .1)))))
 
   table-unchanged : (r : Read) → Finds text table r → (r .refusal ≡ 0 → ⊥) → (r .n ≡ 0) × (r .table ≡ table)
   table-unchanged r (too-long long) h = (refl, refl)
@@ -183,30 +201,16 @@ module _ (text table : List ℕ) where
   table-unchanged r (no-room s t m short) h = (refl, refl)
   table-unchanged r (a-term s t m fits) h = absurd (h refl)
 
-  accepts-reading : (r : Read) (n : ℕ) (words : List ℕ) → Finds text table r → (r ≡ record { n = n; refusal = 0; table = words }) ↔ Accepts text table n words
-  accepts-reading r n words (too-long long) = (λ e. absurd (omega (arith, same-refusal e)), λ a. absurd (omega (arith, a .well-spelled .few-bytes)))
-  accepts-reading r n words (foreign-byte few dirt) = (λ e. absurd (omega (arith, same-refusal e)), λ a. absurd (dirt (a .well-spelled .no-foreign)))
-  accepts-reading r n words (bad-name few clean bad) = (λ e. absurd (omega (arith, same-refusal e)), λ a. absurd (bad (a .well-spelled .good-names)))
-  accepts-reading r n words (no-tree s underived) = (λ e. absurd (omega (arith, same-refusal e)), λ a. absurd (underived (a .means .tree) (a .means .derives)))
+  accepts-reading : (r : Read) (n : ℕ) (words : List ℕ) → Finds text table r
+      → (r ≡ record { n = n; refusal = 0; table = words }) ↔ Accepts (NamesMean text) table n words
+  accepts-reading r n words (too-long long) = (λ e. absurd (omega (arith, same-refusal e)), λ a. absurd (omega (arith, a .means .0 .few-bytes)))
+  accepts-reading r n words (foreign-byte few dirt) = (λ e. absurd (omega (arith, same-refusal e)), λ a. absurd (dirt (a .means .0 .no-foreign)))
+  accepts-reading r n words (bad-name few clean bad) = (λ e. absurd (omega (arith, same-refusal e)), λ a. absurd (bad (a .means .0 .good-names)))
+  accepts-reading r n words (no-tree s underived) = (λ e. absurd (omega (arith, same-refusal e)), λ a. absurd (underived (a .means .1 .tree) (a .means .1 .derives)))
   accepts-reading r n words (open-tree s t d unclosed) =
-      (λ e. absurd (omega (arith, same-refusal e)), λ a. absurd (unclosed (only-closed text t (a .term) d (a .means))))
-  accepts-reading r n words (no-room s t m short) = (
-    λ e. absurd (omega (arith, same-refusal e)),
-    λ a. absurd (omega (arith, a .room, a .n-is, ap size (one-meaning text (a .term) t (a .means) m))),
-  )
-  accepts-reading r n words (a-term s t m fits) = (
-    λ e.
-        let n-is : n ≡ size t = sym (ap (λ (a : Read). a .n) e) in
-        record {
-          well-spelled = s;
-          term = t;
-          means = m;
-          n-is = n-is;
-          room = omega arith;
-          words-are = sym (ap (λ (a : Read). a .table) e) ∙ rw n-is;
-        },
-    λ a. rw (a .words-are, a .n-is, one-meaning text (a .term) t (a .means) m),
-  )
+      (λ e. absurd (omega (arith, same-refusal e)), λ a. absurd (unclosed (only-closed text t (a .term) d (a .means .1))))
+  accepts-reading r n words (no-room s t m short) = short-accepts (NamesMean text) table t n words short (λ u k. one-meaning text u t (k .1) m)
+  accepts-reading r n words (a-term s t m fits) = laid-accepts (NamesMean text) table t n words (s, m) fits (λ u k. one-meaning text u t (k .1) m)
 
 pub one-exactly : OneExactly
 one-exactly text table = one text table (readOf text table) (finds text table)

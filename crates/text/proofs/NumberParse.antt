@@ -14,7 +14,7 @@ use Rattle.decimal.proofs.Decimal.{decimal-is, decimal-only}
 use Rattle.term.specs.Choice.{_⇒_, first}
 use Rattle.term.specs.Term.{Term, var, lam, app, size}
 use Rattle.text.specs.Bytes.{letter, digit, blank, sign, foreign, lambda, dot, opening, closing, space, classOf, isDigit}
-use Rattle.text.specs.Parsed.{Parsed, parsed, isEmpty}
+use Rattle.text.specs.Parsed.{Parsed, parsed}
 use Rattle.text.specs.NumberGrammar.{atSign, numberText, OnePhrase}
 use Rattle.text.specs.NumberParse.{afterByte, digitsFirst, isNumber, numberAt, phraseAt, parseNumbers, NumbersExactly}
 use Rattle.text.proofs.Each.{Each, each-some, each-bind, each-if, whole-spells}

@@ -12,10 +12,12 @@ use borrow.Author.Tests.{ltb-true, ltb-false}
 use Rattle.term.specs.Term.{Term, size, Closed, isClosedUnder}
 use Rattle.term.proofs.Closed.{closed-exactly}
 use Rattle.text.specs.Reading.{Read, mostBytes, refused, laidOut}
+use Rattle.text.specs.Exactly.{Accepts}
 use Rattle.text.specs.NumberGrammar.{Phrase}
 use Rattle.text.specs.NumberParse.{parseNumbers}
 use Rattle.text.specs.NumberReading.{numbersMeant, numbersNumber, readNumbersOf}
-use Rattle.text.specs.NumbersRead.{NumbersMean, NumbersAccept, NumbersAcceptedExactly, NumbersOneExactly, ThirteenExactly, FourteenExactly, NumbersSixExactly, NumbersRefusedUnchanged}
+use Rattle.text.specs.NumbersRead.{NumbersMean, NumbersAcceptedExactly, NumbersOneExactly, ThirteenExactly, FourteenExactly, NumbersSixExactly, NumbersRefusedUnchanged}
+use Rattle.text.proofs.Exactly.{same-refusal, short-accepts, laid-accepts}
 use Rattle.text.proofs.NumberParse.{numbers-exactly, one-phrase}
 
 -- what the reader finds, in the order of the tests, and what it then answers
@@ -105,24 +107,13 @@ module _ (text table : List ℕ) where
   unchanged r (no-room t m lacking) h = (refl, refl)
   unchanged r (a-term t m room) h = absurd (h refl)
 
-  same-refusal : {r s : Read} → r ≡ s → r .refusal ≡ s .refusal
-  same-refusal e = ap (λ (a : Read). a .refusal) e
-
-  accepts : (r : Read) (n : ℕ) (words : List ℕ) → Finds text table r → (r ≡ record { n = n; refusal = 0; table = words }) ↔ NumbersAccept text table n words
+  accepts : (r : Read) (n : ℕ) (words : List ℕ) → Finds text table r → (r ≡ record { n = n; refusal = 0; table = words }) ↔ Accepts (NumbersMean text) table n words
   accepts r n words (too-long long) = (λ e. absurd (omega (arith, same-refusal e)), λ a. absurd (omega (arith, a .means .few-bytes)))
   accepts r n words (no-phrase short unspelt) = (λ e. absurd (omega (arith, same-refusal e)), λ a. absurd (unspelt (a .term) (a .means .phrase)))
   accepts r n words (open-phrase short t p unclosed) =
       (λ e. absurd (omega (arith, same-refusal e)), λ a. absurd (unclosed (same-closed t (a .term) p (a .means .phrase) (a .means .closed))))
-  accepts r n words (no-room t m lacking) = (
-    λ e. absurd (omega (arith, same-refusal e)),
-    λ a. absurd (omega (arith, a .room, a .n-is, ap size (one-phrase text (a .term) t (a .means .phrase) (m .phrase)))),
-  )
-  accepts r n words (a-term t m room) = (
-    λ e.
-        let n-is : n ≡ size t = sym (ap (λ (a : Read). a .n) e) in
-        record { term = t; means = m; n-is = n-is; room = omega arith; words-are = sym (ap (λ (a : Read). a .table) e) ∙ rw n-is },
-    λ a. rw (a .words-are, a .n-is, one-phrase text (a .term) t (a .means .phrase) (m .phrase)),
-  )
+  accepts r n words (no-room t m lacking) = short-accepts (NumbersMean text) table t n words lacking (λ u k. one-phrase text u t (k .phrase) (m .phrase))
+  accepts r n words (a-term t m room) = laid-accepts (NumbersMean text) table t n words m room (λ u k. one-phrase text u t (k .phrase) (m .phrase))
 
 pub numbers-one-exactly : NumbersOneExactly
 numbers-one-exactly text table = one text table (readNumbersOf text table) (finds text table)

@@ -1,7 +1,7 @@
 -- The reading of tokens finds the one phrase that they spell, and finds none exactly where no tree is derived.
 use mathlib.Core.Path.{_≡_, refl, sym, _∙_}
 use mathlib.Core.Logic.{_↔_}
-use mathlib.Core.Bool.{true, false, cond}
+use mathlib.Core.Bool.{true, false}
 use mathlib.Core.Option.{Option, none, some}
 use mathlib.Core.List.{List, [], _∷_, _++_, append-nil, append-assoc}
 use Prim.Native.Nat.{ℕ, zero, suc, _+_, _*_, _≤_}
@@ -11,7 +11,7 @@ use lib.ListN.{length, length-append}
 use Rattle.text.specs.Bytes.{lambda, closing}
 use Rattle.text.specs.Tokens.{Token, mark}
 use Rattle.text.specs.Grammar.{Phrase, abstraction, atoms, Atoms, no-more, _and_, Atom, named, bracketed, phraseTokens, atomsTokens, atomTokens, Tree, phraseTree, Derives}
-use Rattle.text.specs.Parsed.{parsed, isEmpty}
+use Rattle.text.specs.Parsed.{parsed}
 use Rattle.text.specs.Parse.{afterMark, startsAtom, phraseAt, atomsAt, atomAt, phraseFrom, parse}
 use Rattle.text.proofs.Each.{Each, each-some, each-bind, whole-spells}
 use Rattle.text.proofs.Spelt.{Spelt, phrase-spelt, atom-some}

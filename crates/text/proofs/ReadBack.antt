@@ -8,7 +8,7 @@ use lib.Seq.{take-at}
 use borrow.Author.Tests.{le-ltb}
 use Rattle.term.specs.Term.{Term, size, Closed}
 use Rattle.term.specs.Table.{tableOf}
-use Rattle.term.specs.Accepted.{mostNodes, Accepted}
+use Rattle.term.specs.Accepted.{mostNodes}
 use Rattle.term.proofs.Accepted.{term-size}
 use Rattle.text.specs.Reading.{mostBytes}
 use Rattle.text.specs.Exactly.{Means}

@@ -15,7 +15,7 @@ use Rattle.text.specs.Dialects.{Dialect, numbers, readIn, MeantIn, textI
 use Rattle.text.specs.ThereAndBack.{SameTable, ReadAccepted, NumbersWriteBack, ConvertedReads, ThereAndBack}
 use Rattle.text.proofs.Accepted.{laidAccepted}
 use Rattle.text.proofs.NumberGrammar.{phrase-exactly}
-use Rattle.text.proofs.Dialects.{laid, one-meant, closed-meant, few-meant, text-meant, reads-meant, Sees, refuses, means, sees}
+use Rattle.text.proofs.Dialects.{one-meant, closed-meant, few-meant, text-meant, reads-meant, Sees, refuses, means, sees}
 use Rattle.text.proofs.ReadBack.{written-out, read-text}
 use Rattle.text.proofs.Converting.{byLength, laid-written, converts-meant, Finds, no-term, no-room, fitting, finds}
 

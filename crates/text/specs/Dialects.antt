@@ -7,7 +7,7 @@ use lib.Dec.{eqb}
 use Rattle.term.specs.Term.{Term}
 use Rattle.term.specs.Accepted.{mostNodes}
 use Rattle.text.specs.Reading.{Read, readOf}
-use Rattle.text.specs.Exactly.{WellSpelled, Means}
+use Rattle.text.specs.Exactly.{NamesMean}
 use Rattle.text.specs.Written.{textOf}
 use Rattle.text.specs.Writing.{Write, refused, writeOf, writeNumbersOf}
 use Rattle.text.specs.NumberGrammar.{numberText}
@@ -24,7 +24,7 @@ readIn numbers text table = readNumbersOf text table
 
 -- the term that a text means, where none of the reader's numbers but 6 applies
 abbrev pub MeantIn : Dialect → List ℕ → Term → Type 0
-MeantIn names text t = WellSpelled text × Means text t
+MeantIn names text t = NamesMean text t
 MeantIn numbers text t = NumbersMean text t
 
 -- the text of a term

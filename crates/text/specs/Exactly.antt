@@ -11,7 +11,7 @@ use Rattle.text.specs.Bytes.{foreign, classOf}
 use Rattle.text.specs.Tokens.{Token, mark, name, tokens, startsWithDigit}
 use Rattle.text.specs.Grammar.{Tree, Derives}
 use Rattle.text.specs.Binding.{Form, ClosedIn}
-use Rattle.text.specs.Reading.{mostBytes, readOf}
+use Rattle.text.specs.Reading.{Read, mostBytes, readOf}
 
 -- number 2 does not apply: no byte is foreign
 abbrev pub NoForeign : List ℕ → Type 0
@@ -37,23 +37,42 @@ pub record Means (text : List ℕ) (t : Term) : Type 0 where
   pub closed : ClosedIn tree []
   pub form : Form tree [] t
 
--- The reader answers n and leaves these words.
-pub record Accepts (text table : List ℕ) (n : ℕ) (words : List ℕ) : Type 0 where
-  pub well-spelled : WellSpelled text
+-- Numbers 1 to 5 do not apply, and this is the term.
+abbrev pub NamesMean : List ℕ → Term → Type 0
+NamesMean text t = WellSpelled text × Means text t
+
+-- The reader answers n and leaves these words, where `meaning` tells the term that the text means.
+pub record Accepts (meaning : Term → Type 0) (table : List ℕ) (n : ℕ) (words : List ℕ) : Type 0 where
   pub term : Term
-  pub means : Means text term
+  pub means : meaning term
   pub n-is : n ≡ size term
   pub room : 5 * n ≤ length table
   pub words-are : words ≡ tableOf term ++ drop (5 * n) table
 
-abbrev pub AcceptedExactly : Type 0
-AcceptedExactly =
+-- What is said of the reader of either dialect (the other is that of specs/NumbersRead.antt): what it accepts,
+abbrev pub AcceptedBy : (List ℕ → List ℕ → Read) → (List ℕ → Term → Type 0) → Type 0
+AcceptedBy read meaning =
     (text table : List ℕ) (n : ℕ) (words : List ℕ)
-    → (readOf text table ≡ record { n = n; refusal = 0; table = words }) ↔ Accepts text table n words
+    → (read text table ≡ record { n = n; refusal = 0; table = words }) ↔ Accepts (meaning text) table n words
+
+-- number 1,
+abbrev pub OneBy : (List ℕ → List ℕ → Read) → Type 0
+OneBy read = (text table : List ℕ) → (read text table .refusal ≡ 1) ↔ (mostBytes < length text)
+
+-- number 6: the slice is too short for the term's table,
+abbrev pub SixBy : (List ℕ → List ℕ → Read) → (List ℕ → Term → Type 0) → Type 0
+SixBy read meaning = (text table : List ℕ) → (read text table .refusal ≡ 6) ↔ ((t : Term) × meaning text t × (length table < 5 * size t))
+
+-- and, "A refused reader answers n as 0", that no lent word differs then.
+abbrev pub RefusedBy : (List ℕ → List ℕ → Read) → Type 0
+RefusedBy read = (text table : List ℕ) → (read text table .refusal ≡ 0 → ⊥) → (read text table .n ≡ 0) × (read text table .table ≡ table)
+
+abbrev pub AcceptedExactly : Type 0
+AcceptedExactly = AcceptedBy readOf NamesMean
 
 -- numbers 1, 2 and 3
 abbrev pub OneExactly : Type 0
-OneExactly = (text table : List ℕ) → (readOf text table .refusal ≡ 1) ↔ (mostBytes < length text)
+OneExactly = OneBy readOf
 
 abbrev pub TwoExactly : Type 0
 TwoExactly = (text table : List ℕ) → (readOf text table .refusal ≡ 2) ↔ ((length text ≤ mostBytes) × (NoForeign text → ⊥))
@@ -70,11 +89,9 @@ FourExactly = (text table : List ℕ) → (readOf text table .refusal ≡ 4) ↔
 abbrev pub FiveExactly : Type 0
 FiveExactly = (text table : List ℕ) → (readOf text table .refusal ≡ 5) ↔ (WellSpelled text × ((t : Tree) × Derives (tokens text) t × (ClosedIn t [] → ⊥)))
 
--- number 6: the slice is too short for the term's table
+-- number 6
 abbrev pub SixExactly : Type 0
-SixExactly = (text table : List ℕ) → (readOf text table .refusal ≡ 6) ↔ (WellSpelled text × ((t : Term) × Means text t × (length table < 5 * size t)))
+SixExactly = SixBy readOf NamesMean
 
--- "A refused reader answers n as 0", and no lent word differs.
 abbrev pub RefusedReadingUnchanged : Type 0
-RefusedReadingUnchanged =
-    (text table : List ℕ) → (readOf text table .refusal ≡ 0 → ⊥) → (readOf text table .n ≡ 0) × (readOf text table .table ≡ table)
+RefusedReadingUnchanged = RefusedBy readOf

@@ -82,10 +82,9 @@ module _ (t : ℕ) where
 
   phrase-returns : phrase-lts.Need-returns phrase-claims (phrase-at t) phrase.Post
   phrase-returns c =
-      let a = c .before .before .before .before .before .before .before .before .args in
       let r = c .before .before .spaced in
       let there = lambda-there (c .before .before .before .before) in
-      abstraction-read (a .text .now) (a .at) (a .depth) (a .out .now) (a .node) (there .0) (there .1) (r .result) (r .last .1 .1 .1 .0) (r .ensures)
+      abstraction-read _ _ _ _ _ (there .0) (there .1) (r .result) (r .last .1 .1 .1 .0) (r .ensures)
 
   phrase-mul-out-2 : phrase-lts.Need-mul-out-2 phrase-claims (phrase-at t) phrase.Post
   phrase-mul-out-2 c = omega (arith, at-there c, c .before .before .before .before .before .pre)
@@ -173,10 +172,9 @@ module _ (t : ℕ) where
 
   spaced-returns : spaced-lts.Need-returns spaced-claims (spaced-at t) spaced.Post
   spaced-returns c =
-      let a = c .before .before .before .before .before .before .before .before .args in
       let r = c .before .before .phrase in
       let there = space-there (c .before .before .before .before) in
-      spaced-read (a .text .now) (a .at) (a .depth) (a .out .now) (a .node) (there .0) (there .1) (r .result) (r .last .1 .1 .1 .0) (r .ensures)
+      spaced-read _ _ _ _ _ (there .0) (there .1) (r .result) (r .last .1 .1 .1 .0) (r .ensures)
 
   spaced-returns-2 : spaced-lts.Need-returns-2 spaced-claims (spaced-at t) spaced.Post
   spaced-returns-2 c =
