@@ -6,14 +6,14 @@ use mathlib.Core.List.{List, [], _∷_}
 use Prim.Native.Nat.{ℕ, zero, suc, _+_, _-_, _≤_, _<_}
 use native.Mathlib.Nat.{sub-zero, suc-sub-suc, le-of-suc-le-suc, not-suc-le-zero}
 use native.Mathlib.Numerals.{add-one}
-use lib.ListN.{length, take, drop}
+use lib.ListN.{length, take, drop, drop as under}
 use lib.Dec.{eqb, eqb·suc-zero}
 use borrow.Author.Tests.{le-leb, lt-leb}
 use Rattle.term.specs.Choice.{_>>=_, isNone, choose, ifSome}
 use Rattle.term.specs.Table.{Table, arity}
 use Rattle.machine.specs.Entries.{entry, Log, ε, _▸_, howMany, topmost, rest, bullet, held, Tape}
 use Rattle.machine.specs.Machine.{state}
-use Rattle.machine.specs.Slice.{makesEntry, putOnLog, readLog, heldOn, under, putOnTape, readTape, allZero}
+use Rattle.machine.specs.Slice.{makesEntry, putOnLog, readLog, heldOn, putOnTape, readTape, allZero}
 use Rattle.machine.proofs.Logs.{howMany-rest}
 use Rattle.machine.proofs.Tests.{entry-made}
 use Rattle.calls.specs.Session.{Session}
