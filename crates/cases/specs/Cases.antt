@@ -10,12 +10,12 @@ use Rattle.machine.specs.Machine.{Dir, down, up, State, state, after}
 use Rattle.calls.specs.Session.{Session, spent, jam, start, logFull, tapeFull, answer, Outcome, Opening, Given}
 use Rattle.calls.specs.Calls.{openOf, forwardOf, backOf, goToOf}
 
--- what a case shows: a reading, a variable's arity, a call's outcome with both slices, or the plain machine's state
-pub data Shown : Type 0 where
-  reading : Read → Shown
-  arity-of : ℕ → Shown
-  call : Outcome → Shown
-  stood : Option State → Shown
+-- what a case results in: a reading, a variable's arity, a call's outcome with both slices, or the plain machine's state
+pub data Result : Type 0 where
+  reading : Read → Result
+  arity-of : ℕ → Result
+  call : Outcome → Result
+  stood : Option State → Result
 
 -- ---- the texts
 
@@ -75,15 +75,15 @@ stranded r = record {
 }
 
 -- the plain machine's states p, p + 1, .., so many of them
-unfoldable pub states : ℕ → Table → ℕ → List Shown
+unfoldable pub states : ℕ → Table → ℕ → List Result
 states zero T p = []
 states (suc k) T p = stood (after T p) ∷ states k T (suc p)
 
-unfoldable pub withStates : List Shown → Table → List Shown
+unfoldable pub withStates : List Result → Table → List Result
 withStates [] T = states 14 T 0
 withStates (c ∷ cs) T = c ∷ withStates cs T
 
-unfoldable pub cases : List Shown
+unfoldable pub cases : List Result
 cases =
     withStates
     (reading (readOf exampleText (replicate 36 9))  -- T1
@@ -113,10 +113,10 @@ sessionMade i d p l t = record { node = i; dir = d; position = p; logLength = l;
 unfoldable pub leaf : ℕ → Entry
 leaf v = entry v ε
 
-unfoldable pub stoodAt : ℕ → Dir → Log → Tape → Shown
+unfoldable pub stoodAt : ℕ → Dir → Log → Tape → Result
 stoodAt i d L t = stood (some (state i d L t))
 
-unfoldable pub results : List Shown
+unfoldable pub results : List Result
 results =
     -- T1 the table above, and a word after it kept
     reading example

@@ -15,8 +15,7 @@ pub(crate) enum Topic {
     Tape,
     OnText,
     Accept,
-    Made,
-    Top,
+    OnSession,
     Write,
     ReadBack,
 }
@@ -100,11 +99,10 @@ pub(crate) fn topic_of(row: usize) -> Topic {
     match row {
         4 | 28 | 31..=36 => Topic::OnText,
         5 => Topic::Accept,
-        6..=11 | 26 | 27 => Topic::Made,
+        6..=11 | 22 | 23 | 26 | 27 => Topic::OnSession,
         12..=15 => Topic::Table,
         16..=18 => Topic::Log,
         19..=21 => Topic::Tape,
-        22 | 23 => Topic::Top,
         24 | 29 => Topic::Write,
         25 | 30 => Topic::ReadBack,
         _ => Topic::Plain,
@@ -173,7 +171,7 @@ pub(crate) fn count_of(line: &[u8], row: usize) -> u32 {
 // How many words of a call's line stand before a name.
 pub(crate) fn words_of(row: usize) -> usize {
     match row {
-        6 => 1,
+        6 | 22 | 23 => 1,
         26 => 3,
         27 => 4,
         _ => 2,
@@ -182,6 +180,11 @@ pub(crate) fn words_of(row: usize) -> usize {
 
 pub(crate) fn is_open(row: usize) -> bool {
     row == 6
+}
+
+// Whether a top entry is asked for.
+pub(crate) fn is_top(row: usize) -> bool {
+    if row == 22 { true } else { row == 23 }
 }
 
 // Of log and tape, the one whose top entry is asked for.

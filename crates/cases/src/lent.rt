@@ -80,27 +80,6 @@ pub(crate) fn compose(text: &mut [u8], pieces: &[u8]) -> usize {
     len
 }
 
-fn fill(words: &mut [u32], word: u32) {
-    let mut i = 0;
-    while i < words.len() {
-        words[i] = word;
-        i += 1;
-    }
-}
-
-// Other words in place of a table, where its text was not refused, so that reading the text shows what it writes.
-pub(crate) fn overwrite(refusal: u32, words: &mut [u32]) {
-    if refusal == 0 {
-        fill(words, 8);
-    }
-}
-
-fn set(words: &mut [u32], i: usize, word: u32) {
-    if i < words.len() {
-        words[i] = word;
-    }
-}
-
 // Word i of the table of so many abstractions over one variable, bound by the first; 0 after it.
 fn tower_word(i: usize, deep: u32) -> u32 {
     if (deep as usize) < i / 5 {
@@ -119,14 +98,6 @@ fn tower_word(i: usize, deep: u32) -> u32 {
     }
 }
 
-fn tower(words: &mut [u32], deep: u32) {
-    let mut i = 0;
-    while i < words.len() {
-        words[i] = tower_word(i, deep);
-        i += 1;
-    }
-}
-
 // Whether a slice has words enough for what the line says of it.
 fn is_within(what: Change, k: usize, capacity: usize, size: usize) -> bool {
     match what {
@@ -137,12 +108,28 @@ fn is_within(what: Change, k: usize, capacity: usize, size: usize) -> bool {
     }
 }
 
-fn rewrite(what: Change, words: &mut [u32], k: u32, word: u32) {
+// What becomes of word i of a slice.
+fn new_word(what: Change, i: usize, old: u32, k: u32, word: u32) -> u32 {
     match what {
-        Change::Fill => fill(words, word),
-        Change::Set => set(words, k as usize, word),
-        Change::Lend => {}
-        Change::Tower => tower(words, k),
+        Change::Fill => word,
+        Change::Set => if i == k as usize { word } else { old },
+        Change::Lend => old,
+        Change::Tower => tower_word(i, k),
+    }
+}
+
+fn rewrite(what: Change, lent: &mut [u32], k: u32, word: u32) {
+    let mut i = 0;
+    while i < lent.len() {
+        lent[i] = new_word(what, i, lent[i], k, word);
+        i += 1;
+    }
+}
+
+// Other words in place of a table, where its text was not refused, so that reading the text shows what it writes.
+pub(crate) fn overwrite(refusal: u32, table: &mut [u32]) {
+    if refusal == 0 {
+        rewrite(Change::Fill, table, 0, 8);
     }
 }
 

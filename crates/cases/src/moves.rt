@@ -7,8 +7,7 @@ use crate::command::is_walk;
 use crate::command::which_of;
 use crate::desk::Desk;
 use crate::desk::same_session;
-use crate::desk::session_on;
-use crate::desk::with_outcome;
+use crate::desk::with_session;
 use crate::show::show_made;
 use crate::show::show_top;
 use session::Opening;
@@ -23,16 +22,21 @@ use session::go_to;
 use session::open;
 use session::top;
 
-// Open's answer as that of a call that makes no step; its refusal, 0 where there is none, stands for the stop.
-fn as_outcome(o: Opening) -> Outcome {
-    let s = o.session;
+// The answer of a call that makes no step.
+fn without_step(s: Session, stop: Stop) -> Outcome {
     Outcome {
         session: s,
         steps: 0,
-        stop: Stop::Refused(o.refusal),
+        stop: stop,
         peak: 0,
         carried: 0,
     }
+}
+
+// Open's answer as that of a call that makes no step; its refusal, 0 where there is none, stands for the stop.
+fn as_outcome(o: Opening) -> Outcome {
+    let s = o.session;
+    without_step(s, Stop::Refused(o.refusal))
 }
 
 // Makes a call on a session.
@@ -55,27 +59,29 @@ fn call_made(
     }
 }
 
-fn after_call(
-    which: SessionCall,
-    d: Desk,
-    table: &[u32],
-    log: &mut [u32],
-    tape: &mut [u32],
-    count: u32,
-) -> Desk {
-    with_outcome(
-        d,
-        call_made(which, d.n, session_on(d), table, log, tape, count),
-    )
+// The session opened afresh and wound to a position in one call.
+fn afresh(n: u32, position: u32, table: &[u32], log: &mut [u32], tape: &mut [u32]) -> Session {
+    let opening = open(table, n, log, tape);
+    let first = opening.session;
+    let out = forward(table, n, first, log, tape, position);
+    let s = out.session;
+    s
 }
 
-fn same_words(a: &[u32], b: &[u32]) -> bool {
-    if a.len() != b.len() {
+// Whether log and tape have 64 words each, and these are the others, word for word.
+fn same_words(log: &[u32], tape: &[u32], other_log: &[u32; 64], other_tape: &[u32; 64]) -> bool {
+    if log.len() != 64 {
+        return false;
+    }
+    if tape.len() != 64 {
         return false;
     }
     let mut i = 0;
-    while i < a.len() {
-        if a[i] != b[i] {
+    while i < 64 {
+        if log[i] != other_log[i] {
+            return false;
+        }
+        if tape[i] != other_tape[i] {
             return false;
         }
         i += 1;
@@ -83,27 +89,18 @@ fn same_words(a: &[u32], b: &[u32]) -> bool {
     true
 }
 
-// The session opened afresh and wound to the same position in one call.
-fn afresh(d: Desk, table: &[u32], log: &mut [u32], tape: &mut [u32]) -> Desk {
-    let first = after_call(SessionCall::Open, d, table, log, tape, 0);
-    after_call(SessionCall::Forward, first, table, log, tape, d.position)
-}
-
 // Where states are compared, on slices of 64 words, 1 if the session is the one opened afresh on others and wound to its position in one call, word for word.
-fn agrees(compared: bool, d: Desk, table: &[u32], log: &[u32], tape: &[u32]) -> u32 {
+fn agrees(compared: bool, n: u32, s: Session, table: &[u32], log: &[u32], tape: &[u32]) -> u32 {
     if !compared {
         return 0;
     }
     let mut other_log = [5u32; 64];
     let mut other_tape = [5u32; 64];
-    let other = afresh(d, table, &mut other_log, &mut other_tape);
-    if !same_session(other, d) {
+    let other = afresh(n, s.position, table, &mut other_log, &mut other_tape);
+    if !same_session(other, s) {
         return 0;
     }
-    if !same_words(&other_log, log) {
-        return 0;
-    }
-    same_words(&other_tape, tape) as u32
+    same_words(log, tape, &other_log, &other_tape) as u32
 }
 
 // The steps of the first call: a walk begins with none.
@@ -129,33 +126,31 @@ pub(crate) fn made(
     let count = count_of(line, row);
     let walks = is_walk(row);
     let compared = is_compared(row);
+    let n = desk.n;
+    let first = desk.session;
     let mut left = how_often(walks, count);
     let mut steps = first_count(walks, count);
-    let mut d = desk;
+    let mut o = without_step(first, Stop::Spent);
     let mut agreed: u32 = 0;
     while 0 < left {
-        d = after_call(which, d, table, log, tape, steps);
-        let more = agrees(compared, d, table, &log[..], &tape[..]);
+        let s = o.session;
+        o = call_made(which, n, s, table, log, tape, steps);
+        let t = o.session;
+        let more = agrees(compared, n, t, table, &log[..], &tape[..]);
         agreed = std::num::wrapping_add_u32(agreed, more);
         steps = 1;
         left -= 1;
     }
-    show_made(row, d, agreed);
-    d
+    show_made(row, o, agreed);
+    let last = o.session;
+    with_session(desk, last)
 }
 
 // Asks for the top entry of log or tape, and shows the answer. Its part may be of either: one lifetime for both.
 pub(crate) fn top_made<'a>(row: usize, d: Desk, table: &[u32], log: &'a [u32], tape: &'a [u32]) {
+    let s = d.session;
     // Neither 0 nor a refusal, so that a number left unwritten shows.
     let mut refusal: u32 = 99;
-    let part = top(
-        table,
-        d.n,
-        session_on(d),
-        log,
-        tape,
-        which_of(row),
-        &mut refusal,
-    );
+    let part = top(table, d.n, s, log, tape, which_of(row), &mut refusal);
     show_top(refusal, part);
 }

@@ -1,16 +1,19 @@
-// What the script prints: names, numbers, sessions, stops and slices.
+// What the program prints: names, numbers, sessions, stops and slices.
 use crate::command::is_compared;
 use crate::command::is_open;
-use crate::desk::Desk;
+use crate::words::after_parts;
+use crate::words::least;
 use crate::words::nth_part;
 use session::Dir;
+use session::Outcome;
+use session::Session;
 use session::Stop;
 
 pub(crate) fn show(bytes: &[u8]) {
     let _whole = io::write_all(1, bytes);
 }
 
-// A label and a sum of words carried.
+// A label and a number of up to 64 bits.
 fn show_sum(label: &[u8], n: u64) {
     show(label);
     let _whole = io::print_decimal(1, n);
@@ -77,31 +80,25 @@ pub(crate) fn dir_place(dir: Dir) -> usize {
 }
 
 // Node, direction, position, and the lengths of log and tape.
-fn show_session(d: Desk) {
-    show_word(d.node);
-    show_number(nth_part(b" d | u ", b'|', d.dir), d.position);
-    show_word(d.log_len);
-    show_word(d.tape_len);
+fn show_session(s: Session) {
+    let dir = s.dir;
+    show_word(s.node);
+    show_number(nth_part(b" d | u ", b'|', dir_place(dir)), s.position);
+    show_word(s.log_len);
+    show_word(s.tape_len);
 }
 
 // An answer's node, a refusal's number, and 0 for the other stops.
-pub(crate) fn stop_number(x: Stop) -> u32 {
+fn stop_number(x: Stop) -> u32 {
     match x {
-        Stop::Spent => 0,
         Stop::Answer(i) => i,
-        Stop::Jam => 0,
-        Stop::Far => 0,
-        Stop::Start => 0,
-        Stop::LogFull => 0,
-        Stop::TapeFull => 0,
         Stop::Refused(k) => k,
-        Stop::Found => 0,
-        Stop::None => 0,
+        _ => 0,
     }
 }
 
-// A stop's place among the names of `show_answer`.
-pub(crate) fn stop_place(x: Stop) -> usize {
+// A stop's place among the names of `show_stop`.
+fn stop_place(x: Stop) -> usize {
     match x {
         Stop::Spent => 0,
         Stop::Jam => 1,
@@ -117,33 +114,31 @@ pub(crate) fn stop_place(x: Stop) -> usize {
 }
 
 // The stop's name, and the number of those that have one.
-fn show_stop(place: usize, number: u32) {
+fn show_stop(x: Stop) {
     let names = b" spent, jam, far, start, log full, tape full, found, none, answer , refused ";
+    let place = stop_place(x);
     let name = nth_part(names, b',', place);
     if place < 8 {
         show(name);
     } else {
-        show_number(name, number);
+        show_number(name, stop_number(x));
     }
 }
 
-// The session after a call, the steps, the stop, the peak and the words carried.
-fn show_answer(d: Desk) {
-    show_session(d);
-    show_number(b" steps ", d.steps);
-    show_stop(d.stop, d.number);
-    show_number(b" peak ", d.peak);
-    show_sum(b" carried ", d.carried);
-}
-
-// What the call of a row answered; open has no stop; of a walk back also how many states agreed.
-pub(crate) fn show_made(row: usize, d: Desk, agreed: u32) {
+// What the call of a row answered: the session after it, the steps, the stop, the peak and the words carried, or of open the session and the refusal; and of a walk back how many
+// states agreed.
+pub(crate) fn show_made(row: usize, o: Outcome, agreed: u32) {
+    let s = o.session;
+    let x = o.stop;
+    show_session(s);
     if is_open(row) {
-        show_session(d);
-        show_number(b" refusal ", d.number);
+        show_number(b" refusal ", stop_number(x));
         return;
     }
-    show_answer(d);
+    show_number(b" steps ", o.steps);
+    show_stop(x);
+    show_number(b" peak ", o.peak);
+    show_sum(b" carried ", o.carried);
     if is_compared(row) {
         show_number(b" agreed ", agreed);
     }
@@ -154,4 +149,21 @@ pub(crate) fn show_top(refusal: u32, part: &[u32]) {
     show_number(b" refusal ", refusal);
     show(b" part");
     show_words(part);
+}
+
+// A printed line begins with the name that follows the command and its numbers, or with the command where there is none.
+pub(crate) fn show_name(line: &[u8], words: usize) {
+    let name = after_parts(line, b' ', words);
+    if name.len() == 0 {
+        show(line);
+    } else {
+        show(name);
+    }
+}
+
+// A slice's label and its words.
+pub(crate) fn show_slice(label: &[u8], words: &[u32], size: usize) {
+    let k = least(size, words.len());
+    show(label);
+    show_words(&words[0..k]);
 }

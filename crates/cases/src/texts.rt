@@ -1,35 +1,95 @@
-// The calls of the reader, the writer and the conversions, each in the dialect that it is told.
+// What the script asks of a text: that it is read, or converted, or one after the other.
 use crate::command::Dialect;
-use reader::Reading;
-use writer::Written;
+use crate::command::TextCall;
+use crate::command::dialect_of;
+use crate::command::is_there_and_back;
+use crate::command::text_call_of;
+use crate::desk::Desk;
+use crate::desk::with_nodes;
+use crate::dialects::convert_to;
+use crate::dialects::other_than;
+use crate::dialects::read_in;
+use crate::dialects::write_in;
+use crate::lent::compose;
+use crate::lent::overwrite;
+use crate::show::show;
+use crate::show::show_name;
+use crate::show::show_number;
+use crate::show::show_slice;
+use crate::show::show_wrong;
+use crate::words::after_parts;
+use crate::words::least;
+use crate::words::line_at;
+use crate::written::convert_shown;
 
-// Reads a text of a dialect.
-pub(crate) fn read_in(which: Dialect, text: &[u8], table: &mut [u32]) -> Reading {
-    match which {
-        Dialect::Names => reader::read(text, table),
-        Dialect::Numbers => reader::read_numbers(text, table),
+// Reads a text into as much of the table as is lent, and shows the answer; n.
+fn read_lent(line: &[u8], which: Dialect, text: &[u8], table: &mut [u32], lent: usize) -> u32 {
+    let k = least(lent, table.len());
+    let r = read_in(which, text, &mut table[0..k]);
+    show_name(line, 1);
+    show_number(b" n ", r.n);
+    show_number(b" refusal ", r.refusal);
+    r.n
+}
+
+fn show_table(d: Desk, table: &[u32]) {
+    show_slice(b" table", table, d.table_size);
+    show(b"\n");
+}
+
+// Reads a text, and shows the answer and the table.
+fn read_shown(line: &[u8], which: Dialect, text: &[u8], d: Desk, table: &mut [u32]) -> Desk {
+    let n = read_lent(line, which, text, table, d.table);
+    show_table(d, &table[..]);
+    with_nodes(d, n)
+}
+
+// Writes the text of the lent table, fills its words with others, reads the text into them, and shows the answer and the table. A refused text is empty,
+// and then the words stay.
+pub(crate) fn read_back_shown(line: &[u8], which: Dialect, d: Desk, table: &mut [u32]) -> Desk {
+    let mut text = [0u8; 3000];
+    let k = least(d.table, table.len());
+    let r = write_in(which, &table[0..k], d.n, &mut text);
+    overwrite(r.refusal, &mut table[0..k]);
+    let len = least(r.len as usize, 3000);
+    read_shown(line, which, &text[0..len], d, table)
+}
+
+// Converts a text, and then reads what is written, or converts it back, and shows that answer. A refused text is empty.
+fn convert_first(line: &[u8], row: usize, text: &[u8], d: Desk, table: &mut [u32]) -> Desk {
+    let which = dialect_of(row);
+    let mut there = [0u8; 3000];
+    let r = convert_to(which, text, &mut there);
+    let len = least(r.len as usize, 3000);
+    if is_there_and_back(row) {
+        convert_shown(line, other_than(which), &there[0..len], d)
+    } else {
+        read_shown(line, which, &there[0..len], d, table)
     }
 }
 
-// Writes a table's text in a dialect.
-pub(crate) fn write_in(which: Dialect, table: &[u32], n: u32, text: &mut [u8]) -> Written {
-    match which {
-        Dialect::Names => writer::write(table, n, text),
-        Dialect::Numbers => writer::write_numbers(table, n, text),
+// Does what the line says of a text.
+fn text_shown(line: &[u8], row: usize, text: &[u8], d: Desk, table: &mut [u32]) -> Desk {
+    match text_call_of(row) {
+        TextCall::Read => read_shown(line, dialect_of(row), text, d, table),
+        TextCall::Convert => convert_shown(line, dialect_of(row), text, d),
+        TextCall::ConvertFirst => convert_first(line, row, text, d, table),
     }
 }
 
-// Converts a text of the other dialect into one of this.
-pub(crate) fn convert_to(which: Dialect, text: &[u8], out: &mut [u8]) -> Written {
-    match which {
-        Dialect::Names => dialect::to_names(text, out),
-        Dialect::Numbers => dialect::to_numbers(text, out),
-    }
+// The text that the script says at an index; its length.
+fn text_at(script: &[u8], at: usize, text: &mut [u8]) -> usize {
+    compose(text, after_parts(line_at(script, at), b' ', 1))
 }
 
-pub(crate) fn other_than(which: Dialect) -> Dialect {
-    match which {
-        Dialect::Names => Dialect::Numbers,
-        Dialect::Numbers => Dialect::Names,
+// Does what the line says of the text that the script says.
+pub(crate) fn on_text(script: &[u8], line: &[u8], row: usize, d: Desk, table: &mut [u32]) -> Desk {
+    // One byte more than a text of the script may have, so that a longer one shows.
+    let mut text = [0u8; 3002];
+    let len = text_at(script, d.text, &mut text);
+    if 3001 < len {
+        show_wrong(line);
+        return d;
     }
+    text_shown(line, row, &text[0..len], d, table)
 }

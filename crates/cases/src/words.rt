@@ -1,9 +1,15 @@
-// The words of a line of the script: parts of it, with one blank between two.
+// The lines of the script, and the words of a line: parts of it, with one blank between two.
 ghost use Prim.Native.Nat.{_<_, _≤_};
 ghost use lib.ListN.{length};
 
 // What a word that is no number up to 4,294,967,295 counts as.
 const NO_NUMBER: u64 = 4294967296;
+
+pub(crate) fn least(a: usize, b: usize) -> usize
+    ensures { λ r. ⌜ (r ≤ a) × (r ≤ b) ⌝ }
+{
+    if a < b { a } else { b }
+}
 
 // How many bytes stand before the first byte b: all, where there is none.
 pub(crate) fn bytes_before(bytes: &[u8], b: u8) -> usize
@@ -25,6 +31,22 @@ pub(crate) fn bytes_through(bytes: &[u8], b: u8) -> usize
 {
     let end = bytes_before(bytes, b);
     if end < bytes.len() { end + 1 } else { end }
+}
+
+// The line of the script that starts at an index.
+pub(crate) fn line_at(script: &[u8], at: usize) -> &[u8] {
+    let start = least(at, script.len());
+    let rest = &script[start..];
+    let end = bytes_before(rest, b'\n');
+    &rest[0..end]
+}
+
+// Where the next line starts.
+pub(crate) fn next_line(script: &[u8], at: usize) -> usize
+    requires { ⌜ at < length (now script) ⌝ }
+    ensures { λ r. ⌜ (at < r) × (r ≤ length (now (script .entry))) ⌝ }
+{
+    at + bytes_through(&script[at..], b'\n')
 }
 
 // What follows the first k parts, of which each but the last ends with byte b.

@@ -1,33 +1,37 @@
 // The calls that write a text, from a table or from a text of the other dialect, into lent bytes.
 use crate::command::Dialect;
-use crate::least;
+use crate::desk::Desk;
+use crate::dialects::convert_to;
+use crate::dialects::write_in;
 use crate::show::show;
+use crate::show::show_name;
 use crate::show::show_number;
 use crate::show::show_words;
-use crate::texts::convert_to;
-use crate::texts::write_in;
+use crate::show::show_wrong;
+use crate::words::least;
+use crate::words::number_at;
 use writer::Written;
 
 fn wide(b: u8) -> u32 {
     b as u32
 }
 
-// Bytes as words, as many as there is room for.
-fn widen(bytes: &[u8], words: &mut [u32]) {
-    let k = least(bytes.len(), words.len());
+// Bytes as numbers, as many as there is room for.
+fn widen(bytes: &[u8], numbers: &mut [u32]) {
+    let k = least(bytes.len(), numbers.len());
     let mut i = 0;
     while i < k {
-        words[i] = wide(bytes[i]);
+        numbers[i] = wide(bytes[i]);
         i += 1;
     }
 }
 
 // Bytes as numbers, shown as a slice's words are.
 fn show_bytes(bytes: &[u8]) {
-    let mut words = [0u32; 3010];
-    widen(bytes, &mut words);
+    let mut numbers = [0u32; 3010];
+    widen(bytes, &mut numbers);
     let k = least(bytes.len(), 3010);
-    show_words(&words[0..k]);
+    show_words(&numbers[0..k]);
 }
 
 // What a call answered that was lent these bytes: the numbers, the text as it is, and the bytes after it as numbers.
@@ -49,7 +53,7 @@ fn write_lent(which: Dialect, table: &[u32], n: u32, text: &mut [u8]) {
 }
 
 // The same, into so many bytes that are all b.
-pub(crate) fn write_made(which: Dialect, table: &[u32], n: u32, size: usize, b: u8) {
+fn write_made(which: Dialect, table: &[u32], n: u32, size: usize, b: u8) {
     let mut text = [b; 3010];
     let k = least(size, 3010);
     write_lent(which, table, n, &mut text[0..k]);
@@ -62,8 +66,49 @@ fn convert_lent(which: Dialect, text: &[u8], out: &mut [u8]) {
 }
 
 // The same, into so many bytes that are all b.
-pub(crate) fn convert_made(which: Dialect, text: &[u8], size: usize, b: u8) {
+fn convert_made(which: Dialect, text: &[u8], size: usize, b: u8) {
     let mut out = [b; 3010];
     let k = least(size, 3010);
     convert_lent(which, text, &mut out[0..k]);
+}
+
+// Whether the line asks for no more bytes than there are, and for a byte's value.
+fn lends_bytes(line: &[u8]) -> bool {
+    if 3010 < number_at(line, 1) {
+        return false;
+    }
+    number_at(line, 2) < 256
+}
+
+// How many bytes the line lends.
+fn lent_size(line: &[u8]) -> usize {
+    number_at(line, 1) as usize
+}
+
+// What each of them is.
+fn lent_byte(line: &[u8]) -> u8 {
+    (number_at(line, 2) % 256) as u8
+}
+
+// Writes the text of the lent table into as many bytes as the line says, and shows the answer and the bytes; the desk stays as it was.
+pub(crate) fn write_shown(line: &[u8], which: Dialect, d: Desk, table: &[u32]) -> Desk {
+    if !lends_bytes(line) {
+        show_wrong(line);
+        return d;
+    }
+    let k = least(d.table, table.len());
+    show_name(line, 3);
+    write_made(which, &table[0..k], d.n, lent_size(line), lent_byte(line));
+    d
+}
+
+// Converts a text into as many bytes as the line says, and shows the answer and the bytes; the desk stays as it was.
+pub(crate) fn convert_shown(line: &[u8], which: Dialect, text: &[u8], d: Desk) -> Desk {
+    if !lends_bytes(line) {
+        show_wrong(line);
+        return d;
+    }
+    show_name(line, 3);
+    convert_made(which, text, lent_size(line), lent_byte(line));
+    d
 }

@@ -75,21 +75,6 @@ pub(crate) fn put_state(out: &mut [u8], at: usize, s: Session, log: &[u32], tape
     put(out, end, b'\n')
 }
 
-pub(crate) fn is_spent(stop: Stop) -> bool {
-    match stop {
-        Stop::Spent => true,
-        Stop::Answer(_) => false,
-        Stop::Jam => false,
-        Stop::Far => false,
-        Stop::Start => false,
-        Stop::LogFull => false,
-        Stop::TapeFull => false,
-        Stop::Refused(_) => false,
-        Stop::Found => false,
-        Stop::None => false,
-    }
-}
-
 // The last line: the stop's name and, for an answer, its node; a refusal's number.
 pub(crate) fn put_stop(out: &mut [u8], at: usize, x: Stop) -> usize
     ensures { λ r. ⌜ Counts r (now (out .exit)) ⌝ }

@@ -35,6 +35,13 @@ fn print_refusal(number: u32) {
     print_last(&mut out, 0, Stop::Refused(number));
 }
 
+fn is_spent(stop: Stop) -> bool {
+    match stop {
+        Stop::Spent => true,
+        _ => false,
+    }
+}
+
 // At most 10,000 steps, a state and a step at a time. A write that fails ends the walk.
 fn print_walk(table: &[u32], n: u32, first: Session, log: &mut [u32], tape: &mut [u32]) {
     let mut out = [0u8; 65536];
@@ -46,7 +53,7 @@ fn print_walk(table: &[u32], n: u32, first: Session, log: &mut [u32], tape: &mut
         let o = forward(table, n, s, log, tape, 1);
         let stop = o.stop;
         let next = o.session;
-        if !line::is_spent(stop) {
+        if !is_spent(stop) {
             print_last(&mut out, at, stop);
             return;
         }

@@ -6,11 +6,11 @@ use Rattle.cases.proofs.moves.made.Statement.{statement}
 use Rattle.cases.proofs.moves.made.Tie as tie
 
 abbrev Inv-loop : tie.InvT-loop
-Inv-loop line row table log₀ tape₀ which count walks compared left₀ steps₀ d₀ agreed₀ log tape left steps d agreed =
+Inv-loop line row desk table log₀ tape₀ which count walks compared n left₀ steps₀ o₀ agreed₀ log tape left steps o agreed =
     (length log ≡ length log₀) × (length tape ≡ length tape₀)
 
 abbrev μ-loop : tie.MeasureT-loop
-μ-loop line row table log₀ tape₀ which count walks compared left₀ steps₀ d₀ agreed₀ log tape left steps d agreed =
+μ-loop line row desk table log₀ tape₀ which count walks compared n left₀ steps₀ o₀ agreed₀ log tape left steps o agreed =
     left
 
 call-of-requires : tie.Need-call-of-requires Inv-loop μ-loop
@@ -31,11 +31,14 @@ how-often-requires c κs = search needs
 first-count-requires : tie.Need-first-count-requires Inv-loop μ-loop
 first-count-requires c κs = search needs
 
+without-step-requires : tie.Need-without-step-requires Inv-loop μ-loop
+without-step-requires c κs = search needs
+
 loop-holds : tie.Need-loop-holds Inv-loop μ-loop
 loop-holds c = search needs
 
-after-call-requires : tie.Need-after-call-requires Inv-loop μ-loop
-after-call-requires c κs = search needs
+call-made-requires : tie.Need-call-made-requires Inv-loop μ-loop
+call-made-requires c κs = search needs
 
 agrees-requires : tie.Need-agrees-requires Inv-loop μ-loop
 agrees-requires c κs = search needs
@@ -54,6 +57,9 @@ loop-again c = search needs
 
 show-made-requires : tie.Need-show-made-requires Inv-loop μ-loop
 show-made-requires c κs = search needs
+
+with-session-requires : tie.Need-with-session-requires Inv-loop μ-loop
+with-session-requires c κs = search needs
 
 same-length : tie.Need-same-length Inv-loop μ-loop
 same-length c = search needs
@@ -76,14 +82,16 @@ made-spec =
     is-compared-requires
     how-often-requires
     first-count-requires
+    without-step-requires
     loop-holds
-    after-call-requires
+    call-made-requires
     agrees-requires
     wrapping-add-u32-requires
     sub-left
     loop-less
     loop-again
     show-made-requires
+    with-session-requires
     same-length
     same-length-2
     returns)

@@ -1,12 +1,12 @@
 -- Each pass leaves a word less.
-use Prim.Native.Nat.{_≤_, _-_}
+use Prim.Native.Nat.{_-_}
 use lib.ListN.{length}
 use borrow.Author.Needs.{needs}
 use Rattle.cases.proofs.show.show_words.Statement.{statement}
 use Rattle.cases.proofs.show.show_words.Tie as tie
 
 abbrev Inv-loop : tie.InvT-loop
-Inv-loop words last₀ times₀ i₀ last times i = i ≤ length words
+Inv-loop words last₀ times₀ i₀ last times i = Unit
 
 abbrev μ-loop : tie.MeasureT-loop
 μ-loop words last₀ times₀ i₀ last times i = length words - i

