@@ -16,10 +16,10 @@ use Rattle.calls.specs.Weight.{weight}
 use Rattle.calls.specs.Winding.{wind}
 use Rattle.calls.specs.Held.{wellFormed, stateIn}
 use Rattle.calls.specs.Calls.{lentNumber, callNumber, openOf, windOf, goToOf}
-use Rattle.cases.specs.Cases.{exampleText, identityText, openText, example, exampleTable, identity, fresh, afterwards, stranded, states, withStates, cases, sessionMade, leaf, stoodAt, results}
+use Rattle.cases.specs.Cases.{exampleText, identityText, openText, example, exampleTable, identity, fresh, afterwards, stranded, states, cases, sessionMade, leaf, stoodAt, results}
 
-pub cases-hold : cases ≡ results
-unfolding exampleText identityText openText example exampleTable identity fresh afterwards stranded states withStates cases sessionMade leaf stoodAt results
+pub cases-hold : cases example ≡ results
+unfolding exampleText identityText openText example exampleTable identity fresh afterwards stranded states cases sessionMade leaf stoodAt results
     rowsOf tableOf tableIn kindOf placeUnder partBy partAt accepted
     classOf pieces phraseAt parse indexOf nameless meant readerNumber readOf
     goDown goUp stepBy afterFrom carriedDown carriedUp carriedFrom slice putOnLog readLog putOnTape readTape allZero

@@ -79,30 +79,25 @@ unfoldable pub states : ℕ → Table → ℕ → List Result
 states zero T p = []
 states (suc k) T p = stood (after T p) ∷ states k T (suc p)
 
-unfoldable pub withStates : List Result → Table → List Result
-withStates [] T = states 14 T 0
-withStates (c ∷ cs) T = c ∷ withStates cs T
-
-unfoldable pub cases : List Result
-cases =
-    withStates
-    (reading (readOf exampleText (replicate 36 9))  -- T1
+-- T1 to T12, the others on the example as T1 reads it
+unfoldable pub cases : Read → List Result
+cases e =
+    reading (readOf exampleText (replicate 36 9))  -- T1
     ∷ arity-of (arity exampleTable 4)
     ∷ arity-of (arity exampleTable 5)
     ∷ arity-of (arity exampleTable 7)
-    ∷ call (forwardOf (fresh example 2 2) 100)  -- T2
-    ∷ call (forwardOf (fresh example 2 1) 100)  -- T3
-    ∷ call (forwardOf (fresh example 1 2) 100)  -- T4
-    ∷ call (forwardOf (fresh example 2 2) 12)  -- T5
-    ∷ call (forwardOf (fresh example 2 2) 0)  -- T6
-    ∷ call (backOf (fresh example 2 2) 1)  -- T7
-    ∷ call (goToOf (afterwards example (forwardOf (fresh example 2 2) 12)) 4)  -- T8
-    ∷ call (forwardOf (stranded example) 1)  -- T9
+    ∷ call (forwardOf (fresh e 2 2) 100)  -- T2
+    ∷ call (forwardOf (fresh e 2 1) 100)  -- T3
+    ∷ call (forwardOf (fresh e 1 2) 100)  -- T4
+    ∷ call (forwardOf (fresh e 2 2) 12)  -- T5
+    ∷ call (forwardOf (fresh e 2 2) 0)  -- T6
+    ∷ call (backOf (fresh e 2 2) 1)  -- T7
+    ∷ call (goToOf (afterwards e (forwardOf (fresh e 2 2) 12)) 4)  -- T8
+    ∷ call (forwardOf (stranded e) 1)  -- T9
     ∷ call (forwardOf (fresh identity 2 2) 100)  -- T10
     ∷ reading (readOf [] (replicate 5 9))  -- T11
     ∷ reading (readOf openText (replicate 5 9))  -- T12
-    ∷ [])
-    exampleTable
+    ∷ states 14 exampleTable 0
 
 -- ---- what document 01 says of each
 
