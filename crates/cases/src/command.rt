@@ -26,8 +26,7 @@ pub(crate) enum Plain {
     Wrong,
     Text,
     Nodes,
-    Down,
-    Up,
+    Session,
 }
 
 // The two ways in which a text spells a term.
@@ -113,11 +112,15 @@ pub(crate) fn plain_of(row: usize) -> Plain {
     match row {
         0 => Plain::Text,
         1 => Plain::Nodes,
-        2 => Plain::Down,
-        3 => Plain::Up,
+        2 | 3 => Plain::Session,
         98 => Plain::Nothing,
         _ => Plain::Wrong,
     }
+}
+
+// The direction of a session by hand.
+pub(crate) fn dir_on(row: usize) -> Dir {
+    if row == 2 { Dir::Down } else { Dir::Up }
 }
 
 // The dialect that a call reads or writes; of a conversion the one that it writes, and of two that of the first.

@@ -62,19 +62,11 @@ pub(crate) fn same_session(a: Session, b: Session) -> bool {
     }
     let x = a.dir;
     let y = b.dir;
-    if dir_place(x) != dir_place(y) {
-        return false;
-    }
-    if a.node != b.node {
-        return false;
-    }
-    if a.position != b.position {
-        return false;
-    }
-    if a.log_len != b.log_len {
-        return false;
-    }
-    a.tape_len == b.tape_len
+    (dir_place(x) == dir_place(y))
+        & (a.node == b.node)
+        & (a.position == b.position)
+        & (a.log_len == b.log_len)
+        & (a.tape_len == b.tape_len)
 }
 
 // How many words a slice has: 0 is the table, 1 the log, 2 the tape.

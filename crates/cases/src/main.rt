@@ -12,6 +12,7 @@ mod written;
 use command::Plain;
 use command::Topic;
 use command::dialect_of;
+use command::dir_on;
 use command::is_top;
 use command::plain_of;
 use command::row_of;
@@ -61,19 +62,14 @@ fn plainly(line: &[u8], at: usize, row: usize, d: Desk) -> Desk {
         }
         Plain::Text => with_text(d, at),
         Plain::Nodes => with_nodes(d, number_at(line, 1)),
-        Plain::Down => with_session(d, stood(line, Dir::Down)),
-        Plain::Up => with_session(d, stood(line, Dir::Up)),
+        Plain::Session => with_session(d, stood(line, dir_on(row))),
     }
 }
 
-fn accepted_lent(d: Desk, table: &[u32]) -> bool {
-    let k = least(d.table, table.len());
-    term::accepts(&table[0..k], d.n)
-}
-
 fn accept_shown(line: &[u8], d: Desk, table: &[u32]) -> Desk {
+    let k = least(d.table, table.len());
     show_name(line, 1);
-    show_word(accepted_lent(d, table) as u32);
+    show_word(term::accepts(&table[0..k], d.n) as u32);
     show(b"\n");
     d
 }

@@ -68,23 +68,16 @@ fn afresh(n: u32, position: u32, table: &[u32], log: &mut [u32], tape: &mut [u32
     s
 }
 
-// Whether log and tape have 64 words each, and these are the others, word for word.
-fn same_words(log: &[u32], tape: &[u32], other_log: &[u32; 64], other_tape: &[u32; 64]) -> bool {
-    if log.len() != 64 {
+fn same_words(a: &[u32], b: &[u32]) -> bool {
+    if a.len() != b.len() {
         return false;
     }
-    if tape.len() != 64 {
-        return false;
-    }
-    let mut i = 0;
-    while i < 64 {
-        if log[i] != other_log[i] {
+    let mut left = a.len();
+    while 0 < left {
+        left -= 1;
+        if a[left] != b[left] {
             return false;
         }
-        if tape[i] != other_tape[i] {
-            return false;
-        }
-        i += 1;
     }
     true
 }
@@ -100,7 +93,10 @@ fn agrees(compared: bool, n: u32, s: Session, table: &[u32], log: &[u32], tape: 
     if !same_session(other, s) {
         return 0;
     }
-    same_words(log, tape, &other_log, &other_tape) as u32
+    if !same_words(&other_log, log) {
+        return 0;
+    }
+    same_words(&other_tape, tape) as u32
 }
 
 // The steps of the first call: a walk begins with none.

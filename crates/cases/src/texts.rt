@@ -22,26 +22,16 @@ use crate::words::least;
 use crate::words::line_at;
 use crate::written::convert_shown;
 
-// Reads a text into as much of the table as is lent, and shows the answer; n.
-fn read_lent(line: &[u8], which: Dialect, text: &[u8], table: &mut [u32], lent: usize) -> u32 {
-    let k = least(lent, table.len());
+// Reads a text into as much of the table as is lent, and shows the answer and the table.
+fn read_shown(line: &[u8], which: Dialect, text: &[u8], d: Desk, table: &mut [u32]) -> Desk {
+    let k = least(d.table, table.len());
     let r = read_in(which, text, &mut table[0..k]);
     show_name(line, 1);
     show_number(b" n ", r.n);
     show_number(b" refusal ", r.refusal);
-    r.n
-}
-
-fn show_table(d: Desk, table: &[u32]) {
-    show_slice(b" table", table, d.table_size);
+    show_slice(b" table", &table[..], d.table_size);
     show(b"\n");
-}
-
-// Reads a text, and shows the answer and the table.
-fn read_shown(line: &[u8], which: Dialect, text: &[u8], d: Desk, table: &mut [u32]) -> Desk {
-    let n = read_lent(line, which, text, table, d.table);
-    show_table(d, &table[..]);
-    with_nodes(d, n)
+    with_nodes(d, r.n)
 }
 
 // Writes the text of the lent table, fills its words with others, reads the text into them, and shows the answer and the table. A refused text is empty,

@@ -1,4 +1,5 @@
 // The calls that write a text, from a table or from a text of the other dialect, into lent bytes.
+ghost use Prim.Native.Nat.{_≤_};
 use crate::command::Dialect;
 use crate::desk::Desk;
 use crate::dialects::convert_to;
@@ -52,24 +53,10 @@ fn write_lent(which: Dialect, table: &[u32], n: u32, text: &mut [u8]) {
     show_written(r, &text[..]);
 }
 
-// The same, into so many bytes that are all b.
-fn write_made(which: Dialect, table: &[u32], n: u32, size: usize, b: u8) {
-    let mut text = [b; 3010];
-    let k = least(size, 3010);
-    write_lent(which, table, n, &mut text[0..k]);
-}
-
 // Converts a text into lent bytes, and shows the answer.
 fn convert_lent(which: Dialect, text: &[u8], out: &mut [u8]) {
     let r = convert_to(which, text, out);
     show_written(r, &out[..]);
-}
-
-// The same, into so many bytes that are all b.
-fn convert_made(which: Dialect, text: &[u8], size: usize, b: u8) {
-    let mut out = [b; 3010];
-    let k = least(size, 3010);
-    convert_lent(which, text, &mut out[0..k]);
 }
 
 // Whether the line asks for no more bytes than there are, and for a byte's value.
@@ -81,8 +68,10 @@ fn lends_bytes(line: &[u8]) -> bool {
 }
 
 // How many bytes the line lends.
-fn lent_size(line: &[u8]) -> usize {
-    number_at(line, 1) as usize
+fn lent_size(line: &[u8]) -> usize
+    ensures { λ r. ⌜ r ≤ 3010 ⌝ }
+{
+    least(number_at(line, 1) as usize, 3010)
 }
 
 // What each of them is.
@@ -97,8 +86,10 @@ pub(crate) fn write_shown(line: &[u8], which: Dialect, d: Desk, table: &[u32]) -
         return d;
     }
     let k = least(d.table, table.len());
+    let size = lent_size(line);
+    let mut text = [lent_byte(line); 3010];
     show_name(line, 3);
-    write_made(which, &table[0..k], d.n, lent_size(line), lent_byte(line));
+    write_lent(which, &table[0..k], d.n, &mut text[0..size]);
     d
 }
 
@@ -108,7 +99,9 @@ pub(crate) fn convert_shown(line: &[u8], which: Dialect, text: &[u8], d: Desk) -
         show_wrong(line);
         return d;
     }
+    let size = lent_size(line);
+    let mut out = [lent_byte(line); 3010];
     show_name(line, 3);
-    convert_made(which, text, lent_size(line), lent_byte(line));
+    convert_lent(which, text, &mut out[0..size]);
     d
 }
