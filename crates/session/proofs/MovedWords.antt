@@ -6,7 +6,7 @@ use native.Mathlib.Numerals.{add-one}
 use native.Mathlib.Omega.{arith}
 use lib.ListN.{length, take, drop, getD, set, replicate, length-append, length-reverse, length-drop, take-append-drop}
 use lib.Seq.{length-take-le, take-at, drop-cons, drop-append-le, set-at}
-use borrow.Rule.Slice.PartMut.{putMid}
+use borrow.Rule.Slice.PartMut.{putMid, mid-len}
 use Rattle.term.specs.Table.{Table}
 use Rattle.machine.specs.Entries.{Entry, entry, Log, ε, _▸_, howMany, topmost, rest, entryWords, logWords}
 use Rattle.machine.specs.Good.{EntryIn, LogIn}
@@ -15,7 +15,10 @@ use Rattle.machine.specs.Span.{span}
 use Rattle.machine.proofs.Load.{reverse-apart}
 use Rattle.machine.proofs.Logs.{topmost-rest, words-onto}
 use Rattle.machine.proofs.Span.{span-none, span-log, span-one, span-topmost}
-use Rattle.session.specs.Mover.{wordsBelow, without, spanBelow, MoverIs, MakerIs}
+use Rattle.session.specs.Extent.{ListIn, spanBelow}
+use Rattle.session.specs.Mover.{wordsBelow, without, MoverIs, MakerIs}
+use Rattle.session.specs.Rules.{partFrom, withPart, endsAfter, EndsFit, MovedOnto}
+use Rattle.session.specs.declared.mover.Moving.{Moving}
 use Rattle.session.specs.declared.mover.Moving.the-variants.{Moved, NoRoom}
 use Rattle.session.proofs.Slices.{Lies, Stacked, taken-off, taken-words, zeros-over, put-on, with-one, zeroed}
 
@@ -159,3 +162,20 @@ module _ (T : Table) (from : List ℕ) (top owed own : ℕ) (to : List ℕ) (som
       let lent = lent-words in
       let room : length to ≤ spanBelow T from top owed = (let z : ¬ (length to ≡ 0) = some-word in omega arith) in
       (room, same-from, ap (λ q. q ++ drop (length to - 1) to) same-part ∙ take-append-drop (length to - 1) to)
+
+-- Where the lists end once the mover filled the part of a slice that starts at the other list's end: no list is longer than its slice.
+module _ (T : Table) (from : List ℕ) (top owed : ℕ) (to : List ℕ) (end : ℕ) where
+  part-room : ListIn to end → length (partFrom end to) ≡ length to - end
+  part-room inside = mid-len end (length to) to (omega arith)
+
+  pub mover-ends : ListIn to end → (m : Moving) (from′ part : List ℕ) → MoverIs T from top owed (partFrom end to) m from′ part → EndsFit m top end 0
+  mover-ends inside (Moved k) from′ part i = (i .1, omega (arith, part-room inside, i .2))
+  mover-ends inside NoRoom from′ part i = tt
+
+  pub maker-ends : ListIn to end → (own : ℕ) (m : Moving) (from′ part : List ℕ) → MakerIs T from top owed own (partFrom end to) m from′ part → EndsFit m top end 1
+  maker-ends inside own (Moved k) from′ part i = (i .1, omega (arith, part-room inside, i .2))
+  maker-ends inside own NoRoom from′ part i = tt
+
+  pub moved-onto : (m : Moving) (from′ part : List ℕ) → MoverIs T from top owed (partFrom end to) m from′ part → MovedOnto T from top owed to end (endsAfter m top end 0) from′ (withPart end to part)
+  moved-onto (Moved k) from′ part i = (part, i, refl, omega arith, refl)
+  moved-onto NoRoom from′ part i = (part, i, refl)

@@ -17,7 +17,7 @@ use Rattle.calls.specs.Session.{Given}
 use Rattle.calls.specs.Top.{Which, shown, notShown, topOfLog, topOfTape, topBy, topOf, seen, sliceGiven}
 use Rattle.calls.proofs.Top.{alone-in, cut, cut-fits}
 use Rattle.session.specs.Steps.{TokenAt}
-use Rattle.session.specs.Mover.{spanBelow}
+use Rattle.session.specs.Extent.{spanBelow}
 use Rattle.session.specs.Place.{placeIn, placed}
 use Rattle.session.specs.declared.Session as Declared
 use Rattle.session.specs.declared.part.Place.{Place}

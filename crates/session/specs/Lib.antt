@@ -1,5 +1,6 @@
 pub mod Types
 pub mod Counting
+pub mod Extent
 pub mod Mover
 pub mod Place
 pub mod Steps

@@ -6,7 +6,7 @@ use lib.ListN.{getD}
 use lib.Dec.{eqb}
 use Rattle.term.specs.Table.{Table}
 use Rattle.calls.specs.Top.{Shown}
-use Rattle.session.specs.Mover.{spanBelow}
+use Rattle.session.specs.Extent.{spanBelow}
 use Rattle.session.specs.declared.part.Place.{Place}
 
 -- how many words below index `len` are those of the entry or bullet on top: the word 0 is a bullet

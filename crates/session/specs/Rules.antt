@@ -3,20 +3,25 @@ use mathlib.Core.Path.{_≡_}
 use mathlib.Core.Bool.{Bool}
 use mathlib.Core.Option.{none, some}
 use mathlib.Core.List.{List, _∷_}
-use Prim.Native.Nat.{ℕ, _≤_}
+use Prim.Native.Nat.{ℕ, _+_, _-_, _≤_}
+use lib.ListN.{length}
+use borrow.Rule.Slice.PartMut.{midOf, putMid}
 use Rattle.term.specs.Table.{Table, tableIn, arity}
 use Rattle.machine.specs.Entries.{Entry, entry, Log, _▸_, howMany, topmost, rest, _onto_, bullet, held, Tape}
 use Rattle.machine.specs.Machine.{down, up, State, state, step}
 use Rattle.calls.specs.Stops.{isAnswer}
+use Rattle.calls.specs.Calls.{longest}
 use Rattle.session.specs.Steps.{TokenAt, Ready, StepIs}
 use Rattle.session.specs.Types.{dirMeant}
+use Rattle.session.specs.Mover.{MoverIs}
 use Rattle.session.specs.declared.Dir as DeclaredDir
 use Rattle.session.specs.declared.Session as Declared
 use Rattle.session.specs.declared.choice.Rule.{Rule}
 use Rattle.session.specs.declared.choice.Rule.the-variants.{One, Two, Three, Four, Five, Six, Seven, Eight}
 use Rattle.session.specs.declared.choice.Fit.{Fit}
 use Rattle.session.specs.declared.choice.Fit.the-variants.{By, Unfit}
-use Rattle.session.specs.declared.Dir.the-variants.{Down}
+use Rattle.session.specs.declared.mover.Moving.{Moving}
+use Rattle.session.specs.declared.mover.Moving.the-variants.{Moved}
 use Rattle.session.specs.declared.rules.ListEnds.{ListEnds}
 use Rattle.session.specs.declared.rules.ListEnds.the-variants.{At, NoRoom}
 use Rattle.session.specs.declared.rules.Stepped.{Stepped}
@@ -68,11 +73,38 @@ BulletGoes se j d r =
     (w : List ℕ) (n : ℕ) (ls ts : List ℕ) (s : State) (t : Tape) → TokenAt w n se ls ts s → s .tape ≡ bullet ∷ t
     → step (tableIn w n) s ≡ some (state j (dirMeant d) (s .log) t) → StepIs w n se ls ts s r ls ts
 
--- An entry moved down to node j, by where the two lists end then and how many words it has: from the tape onto the log, and from the log onto the tape.
-abbrev pub ontoLog : ℕ → ListEnds → Stepped
-ontoLog j (At t l k) = Made (record { node = j; dir = Down; «log_len» = l; «tape_len» = t; carried = k })
-ontoLog j NoRoom = LogFull
+-- The part of a slice that starts at index m, as it is lent, and the slice once it came back.
+abbrev pub partFrom : ℕ → List ℕ → List ℕ
+partFrom m s = midOf m (length s - m) s
 
-abbrev pub ontoTape : ℕ → ListEnds → Stepped
-ontoTape j (At l t k) = Made (record { node = j; dir = Down; «log_len» = l; «tape_len» = t; carried = k })
-ontoTape j NoRoom = TapeFull
+abbrev pub withPart : ℕ → List ℕ → List ℕ → List ℕ
+withPart m s part = putMid m (length s - m) s part
+
+-- Where lists of `top` and `end` words end once the mover went from the one to the other, with `own` words made above those that it moved; and that these lengths are right.
+abbrev pub endsAfter : Moving → ℕ → ℕ → ℕ → ListEnds
+endsAfter (Moved k) top end own = At (top - k) (end + k + own) k
+endsAfter Moving.NoRoom top end own = NoRoom
+
+abbrev pub EndsFit : Moving → ℕ → ℕ → ℕ → Type 0
+EndsFit (Moved k) top end own = (k ≤ top) × (end + k + own ≤ longest)
+EndsFit Moving.NoRoom top end own = Unit
+
+-- The next `owed` entries below index `top` of one list's slice, of k words, moved to the part of the other's that starts at its top, and these are the lengths then; or they have no room.
+abbrev pub MovedOnto : Table → List ℕ → ℕ → ℕ → List ℕ → ℕ → ListEnds → List ℕ → List ℕ → Type 0
+MovedOnto T from top owed to end (At left came k) from′ to′ =
+    (part : List ℕ)
+    × MoverIs T from top owed (partFrom end to) (Moved k) from′ part
+    × (left ≡ top - k)
+    × (came ≡ end + k)
+    × (to′ ≡ withPart end to part)
+MovedOnto T from top owed to end NoRoom from′ to′ =
+    (part : List ℕ) × MoverIs T from top owed (partFrom end to) Moving.NoRoom from′ part × (to′ ≡ withPart end to part)
+
+-- Entries moved on the way to node j in direction d, by where the two lists end then and how many words they have: from the tape onto the log, and from the log onto the tape.
+abbrev pub ontoLog : ℕ → DeclaredDir.Dir → ListEnds → Stepped
+ontoLog j d (At t l k) = Made (record { node = j; dir = d; «log_len» = l; «tape_len» = t; carried = k })
+ontoLog j d NoRoom = LogFull
+
+abbrev pub ontoTape : ℕ → DeclaredDir.Dir → ListEnds → Stepped
+ontoTape j d (At l t k) = Made (record { node = j; dir = d; «log_len» = l; «tape_len» = t; carried = k })
+ontoTape j d NoRoom = TapeFull

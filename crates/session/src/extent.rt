@@ -1,10 +1,9 @@
-// How many words the top entries of a list take.
+// The arity of a variable, and how many words the top entries of a list take.
 ghost use mathlib.Core.Path.{_≡_};
-ghost use mathlib.Core.List.{reverse};
 ghost use Prim.Native.Nat.{_≤_};
-ghost use lib.ListN.{length, take};
 ghost use Rattle.term.specs.Table.{tableIn, arity as arityOf};
-ghost use Rattle.machine.specs.Span.{span as spanOf};
+ghost use Rattle.calls.specs.Calls.{longest};
+ghost use Rattle.session.specs.Extent.{ListIn, spanBelow};
 
 // The arity of a variable: its level less its binder's level, and 0 where that is less than nothing.
 pub(crate) fn arity(table: &[u32], n: u32, v: u32) -> u32
@@ -18,8 +17,8 @@ pub(crate) fn arity(table: &[u32], n: u32, v: u32) -> u32
 
 // How many of the words below index `top`, read from the top down, the next `owed` entries take: each word pays one entry and owes its arity.
 pub(crate) fn span(table: &[u32], n: u32, words: &[u32], top: usize, owed: usize) -> usize
-    requires { ⌜ (top ≤ length (now words)) × (length (now words) ≤ 16384) × (owed ≤ 16384) ⌝ }
-    ensures { λ r. ⌜ (r ≡ spanOf (tableIn (now (table .entry)) n) (reverse (take top (now (words .entry)))) owed) × (r ≤ top) ⌝ }
+    requires { ⌜ ListIn (now words) top × (owed ≤ longest) ⌝ }
+    ensures { λ r. ⌜ (r ≡ spanBelow (tableIn (now (table .entry)) n) (now (words .entry)) top owed) × (r ≤ top) ⌝ }
 {
     let mut i = top;
     let mut left = owed;

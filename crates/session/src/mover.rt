@@ -2,6 +2,8 @@
 ghost use Prim.Native.Nat.{_≤_};
 ghost use lib.ListN.{length};
 ghost use Rattle.term.specs.Table.{tableIn};
+ghost use Rattle.calls.specs.Calls.{longest};
+ghost use Rattle.session.specs.Extent.{ListIn};
 ghost use Rattle.session.specs.Mover.{WordsMoved, MoverIs, MakerIs};
 use crate::extent::span;
 
@@ -35,8 +37,9 @@ pub(crate) fn move_entries(
     owed: usize,
     to: &mut [u32],
 ) -> Moving
-    requires { ⌜ (top ≤ length (now from)) × (length (now from) ≤ 16384) × (owed ≤ 16384) ⌝ }
-    ensures { λ r. ⌜ MoverIs (tableIn (now (table .entry)) n) (now (from .entry)) top owed (now (to .entry)) r (now (from .exit)) (now (to .exit)) ⌝ }
+    requires { ⌜ ListIn (now from) top × (owed ≤ longest) ⌝ }
+    ensures { λ r. ⌜ MoverIs (tableIn (now (table .entry)) n) (now (from .entry)) top owed (now (to .entry)) r
+        (now (from .exit)) (now (to .exit)) ⌝ }
 {
     let k = span(table, n, &from[..], top, owed);
     if to.len() < k {
@@ -56,7 +59,7 @@ pub(crate) fn make_entry(
     own: u32,
     to: &mut [u32],
 ) -> Moving
-    requires { ⌜ (top ≤ length (now from)) × (length (now from) ≤ 16384) × (owed ≤ 16384) ⌝ }
+    requires { ⌜ ListIn (now from) top × (owed ≤ longest) ⌝ }
     ensures { λ r. ⌜ MakerIs (tableIn (now (table .entry)) n) (now (from .entry)) top owed own (now (to .entry)) r
         (now (from .exit)) (now (to .exit)) ⌝ }
 {

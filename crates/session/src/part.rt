@@ -4,7 +4,7 @@ ghost use Prim.Native.Nat.{_≤_};
 ghost use Rattle.term.specs.Table.{tableIn};
 ghost use Rattle.calls.specs.Top.{topOf};
 ghost use Rattle.session.specs.Types.{lent, whichMeant};
-ghost use Rattle.session.specs.Mover.{ListIn};
+ghost use Rattle.session.specs.Extent.{ListIn};
 ghost use Rattle.session.specs.Place.{itemSpan, noPlace, placeIn, placed};
 use crate::Session;
 use crate::Which;

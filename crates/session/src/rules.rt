@@ -4,8 +4,8 @@ ghost use Prim.Native.Nat.{_≤_};
 ghost use lib.ListN.{length};
 ghost use Rattle.calls.specs.Calls.{longest};
 ghost use Rattle.term.specs.Table.{tableIn};
-ghost use Rattle.session.specs.Mover.{ListIn, TopMoved};
-ghost use Rattle.session.specs.Rules.{TellsAnswer, Fitting, Steps, BulletComes, BulletGoes, ontoLog, ontoTape};
+ghost use Rattle.session.specs.Extent.{ListIn};
+ghost use Rattle.session.specs.Rules.{TellsAnswer, Fitting, Steps, BulletComes, BulletGoes, EndsFit, endsAfter, MovedOnto, ontoLog, ontoTape};
 use crate::Dir;
 use crate::Session;
 use crate::choice::Rule;
@@ -30,7 +30,7 @@ pub(crate) enum Stepped {
     TapeFull,
 }
 
-// The lengths in words after an entry moved, of the list that it left and of the one that it came to, and how many words it has; or that there was no room for it.
+// The lengths in words after entries moved, of the list that they left and of the one that they came to, and how many words they have; or that there was no room for them.
 pub(crate) enum ListEnds {
     At(u32, u32, u32),
     NoRoom,
@@ -85,6 +85,71 @@ fn pop_bullet(session: Session, node: u32, dir: Dir) -> Stepped
     })
 }
 
+// Where lists of `top` and `end` words end once the mover went from the one to the other, with `own` words made above those that it moved.
+fn list_ends(moving: Moving, top: u32, end: u32, own: u32) -> ListEnds
+    requires { ⌜ EndsFit moving top end own ⌝ }
+    ensures { λ r. ⌜ r ≡ endsAfter moving top end own ⌝ }
+{
+    match moving {
+        Moving::Moved(k) => {
+            let words = k as u32;
+            ListEnds::At(top - words, end + words + own, words)
+        }
+        Moving::NoRoom => ListEnds::NoRoom,
+    }
+}
+
+// Rules 4, 6 and 8. The next `owed` entries below index `top` of one list's slice move onto the other list, which has `end` words.
+fn move_onto(
+    table: &[u32],
+    n: u32,
+    from: &mut [u32],
+    top: u32,
+    owed: u32,
+    to: &mut [u32],
+    end: u32,
+) -> ListEnds
+    requires { ⌜ ListIn (now from) top × (owed ≤ longest) × ListIn (now to) end ⌝ }
+    ensures { λ r. ⌜ MovedOnto (tableIn (now (table .entry)) n) (now (from .entry)) top owed (now (to .entry)) end r
+        (now (from .exit)) (now (to .exit)) ⌝ }
+{
+    let m = end as usize;
+    let moving = move_entries(table, n, from, top as usize, owed as usize, &mut to[m..]);
+    list_ends(moving, top, end, 0)
+}
+
+// Rules 4 and 6. Entries have moved from the tape to the log.
+fn onto_log(to: u32, dir: Dir, ends: ListEnds) -> Stepped
+    ensures { λ r. ⌜ r ≡ ontoLog to dir ends ⌝ }
+{
+    match ends {
+        ListEnds::At(tape_len, log_len, from_tape) => Stepped::Made(Arrival {
+            node: to,
+            dir: dir,
+            log_len: log_len,
+            tape_len: tape_len,
+            carried: from_tape,
+        }),
+        ListEnds::NoRoom => Stepped::LogFull,
+    }
+}
+
+// Rules 3 and 8. Entries have moved from the log to the tape.
+fn onto_tape(to: u32, dir: Dir, ends: ListEnds) -> Stepped
+    ensures { λ r. ⌜ r ≡ ontoTape to dir ends ⌝ }
+{
+    match ends {
+        ListEnds::At(log_len, tape_len, from_log) => Stepped::Made(Arrival {
+            node: to,
+            dir: dir,
+            log_len: log_len,
+            tape_len: tape_len,
+            carried: from_log,
+        }),
+        ListEnds::NoRoom => Stepped::TapeFull,
+    }
+}
+
 // Rule 3. To the binder, up; the top arity-many entries leave the log, and the entry of the variable and these goes onto the tape. The variable's own word is made there, not carried.
 fn rule_3(table: &[u32], n: u32, at: Session, to: u32, log: &mut [u32], tape: &mut [u32]) -> Stepped
     requires { ⌜ Fitting (now table) n at (now log) (now tape) (Rule.Three to) ⌝ }
@@ -94,16 +159,8 @@ fn rule_3(table: &[u32], n: u32, at: Session, to: u32, log: &mut [u32], tape: &m
     let m = at.tape_len as usize;
     let owed = arity(table, n, at.node) as usize;
     let moving = make_entry(table, n, log, l, owed, at.node, &mut tape[m..]);
-    match moving {
-        Moving::Moved(k) => Stepped::Made(Arrival {
-            node: to,
-            dir: Dir::Up,
-            log_len: (l - k) as u32,
-            tape_len: (m + k + 1) as u32,
-            carried: k as u32,
-        }),
-        Moving::NoRoom => Stepped::TapeFull,
-    }
+    let ends = list_ends(moving, at.log_len, at.tape_len, 1);
+    onto_tape(to, Dir::Up, ends)
 }
 
 // Rule 4. To the entry's variable, up; the entries inside it go onto the log in their order, and its own word leaves the tape, carried nowhere.
@@ -111,70 +168,15 @@ fn rule_4(table: &[u32], n: u32, at: Session, to: u32, log: &mut [u32], tape: &m
     requires { ⌜ Fitting (now table) n at (now log) (now tape) (Rule.Four to) ⌝ }
     ensures { λ r. ⌜ Steps (now (table .entry)) n at (now (log .entry)) (now (tape .entry)) r (now (log .exit)) (now (tape .exit)) ⌝ }
 {
-    let l = at.log_len as usize;
-    let under = at.tape_len as usize - 1;
-    let owed = arity(table, n, to) as usize;
-    let moving = move_entries(table, n, tape, under, owed, &mut log[l..]);
-    match moving {
-        Moving::Moved(k) => {
-            tape[under] = 0;
-            Stepped::Made(Arrival {
-                node: to,
-                dir: Dir::Up,
-                log_len: (l + k) as u32,
-                tape_len: (under - k) as u32,
-                carried: k as u32,
-            })
-        }
-        Moving::NoRoom => Stepped::LogFull,
-    }
-}
-
-// Rules 6 and 8. The top entry of one list, which has `top` words, moves to the other, which has `end`.
-fn move_top(table: &[u32], n: u32, from: &mut [u32], top: u32, to: &mut [u32], end: u32) -> ListEnds
-    requires { ⌜ ListIn (now from) top × ListIn (now to) end ⌝ }
-    ensures { λ r. ⌜ TopMoved (tableIn (now (table .entry)) n) (now (from .entry)) top (now (to .entry)) end r (now (from .exit)) (now (to .exit)) ⌝ }
-{
-    let m = end as usize;
-    let moving = move_entries(table, n, from, top as usize, 1, &mut to[m..]);
-    match moving {
-        Moving::Moved(k) => {
-            let words = k as u32;
-            ListEnds::At(top - words, end + words, words)
-        }
-        Moving::NoRoom => ListEnds::NoRoom,
-    }
-}
-
-// Rule 6. To the argument, down; the entry on top of the tape has moved to the log.
-fn onto_log(to: u32, ends: ListEnds) -> Stepped
-    ensures { λ r. ⌜ r ≡ ontoLog to ends ⌝ }
-{
+    let under = at.tape_len - 1;
+    let owed = arity(table, n, to);
+    let ends = move_onto(table, n, tape, under, owed, log, at.log_len);
     match ends {
-        ListEnds::At(tape_len, log_len, from_tape) => Stepped::Made(Arrival {
-            node: to,
-            dir: Dir::Down,
-            log_len: log_len,
-            tape_len: tape_len,
-            carried: from_tape,
-        }),
+        ListEnds::At(_, _, _) => {
+            tape[under as usize] = 0;
+            onto_log(to, Dir::Up, ends)
+        }
         ListEnds::NoRoom => Stepped::LogFull,
-    }
-}
-
-// Rule 8. To the function, down; the log's top entry has moved to the tape.
-fn onto_tape(to: u32, ends: ListEnds) -> Stepped
-    ensures { λ r. ⌜ r ≡ ontoTape to ends ⌝ }
-{
-    match ends {
-        ListEnds::At(log_len, tape_len, from_log) => Stepped::Made(Arrival {
-            node: to,
-            dir: Dir::Down,
-            log_len: log_len,
-            tape_len: tape_len,
-            carried: from_log,
-        }),
-        ListEnds::NoRoom => Stepped::TapeFull,
     }
 }
 
@@ -197,13 +199,13 @@ pub(crate) fn step(
         Rule::Four(node) => rule_4(table, n, session, node, log, tape),
         Rule::Five(node) => pop_bullet(session, node, Dir::Up),
         Rule::Six(node) => {
-            let ends = move_top(table, n, tape, session.tape_len, log, session.log_len);
-            onto_log(node, ends)
+            let ends = move_onto(table, n, tape, session.tape_len, 1, log, session.log_len);
+            onto_log(node, Dir::Down, ends)
         }
         Rule::Seven(node) => push_bullet(session, node, Dir::Up, &tape[..]),
         Rule::Eight(node) => {
-            let ends = move_top(table, n, log, session.log_len, tape, session.tape_len);
-            onto_tape(node, ends)
+            let ends = move_onto(table, n, log, session.log_len, 1, tape, session.tape_len);
+            onto_tape(node, Dir::Down, ends)
         }
     }
 }

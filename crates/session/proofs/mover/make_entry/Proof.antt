@@ -64,7 +64,7 @@ returns-2 : tie.Need-returns-2
 returns-2 c =
     let p = c .before .before .before .before .before .before .before .before .before .before .before .before .before .before in
     let a = p .args in
-    entry-put (tableIn (a .table .now) (a .n)) (a .from .now) (a .top) (a .owed) (a .own) (a .to .now) (c .before .before .before .before .before .before .before .before .before .before .if1 .left) (c .before .moving .given .0 .0) _ _ (p .pre .0) (moved c)
+    entry-put (tableIn (a .table .now) (a .n)) (a .from .now) (a .top) (a .owed) (a .own) (a .to .now) (c .before .before .before .before .before .before .before .before .before .before .if1 .left) (c .before .moving .given .0 .0) _ _ (p .pre .0 .0) (moved c)
 
 same-length-3 : tie.Need-same-length-3
 same-length-3 c = search needs

@@ -54,8 +54,8 @@ pop-bullet-requires-2 c κs =
 enum-known-rule-6 : tie.Need-enum-known-rule-6
 enum-known-rule-6 c = search needs
 
-move-top-requires : tie.Need-move-top-requires
-move-top-requires c κs = search needs
+move-onto-requires : tie.Need-move-onto-requires
+move-onto-requires c κs = search needs
 
 onto-log-requires : tie.Need-onto-log-requires
 onto-log-requires c κs = search needs
@@ -69,8 +69,8 @@ push-bullet-requires-2 c κs = search needs
 enum-known-rule-8 : tie.Need-enum-known-rule-8
 enum-known-rule-8 c = search needs
 
-move-top-requires-2 : tie.Need-move-top-requires-2
-move-top-requires-2 c κs = search needs
+move-onto-requires-2 : tie.Need-move-onto-requires-2
+move-onto-requires-2 c κs = search needs
 
 onto-tape-requires : tie.Need-onto-tape-requires
 onto-tape-requires c κs = search needs
@@ -124,7 +124,7 @@ same-length-7 c = search needs
 returns-6 : tie.Need-returns-6
 returns-6 c =
     let f = told (c .before .before .before .before .before .before .before .before .before .rule6 .given .1) (c .before .before .before .before .before .before .before .before .before .before .before .before .before .before .pre) in
-    λ s h. rw (c .onto-log .ensures) (moved-6 h (c .before .before .before .before .before .before .before .before .before .rule6 .given .0 .0) (f .fits s h) (c .before .before .before .before .before .move-top .result) _ _ (c .before .before .before .before .before .move-top .ensures))
+    λ s h. rw (c .onto-log .ensures) (moved-6 h (c .before .before .before .before .before .before .before .before .before .rule6 .given .0 .0) (f .fits s h) (c .before .before .before .before .before .move-onto .result) _ _ (c .before .before .before .before .before .move-onto .ensures))
 
 same-length-8 : tie.Need-same-length-8
 same-length-8 c = search needs
@@ -143,7 +143,7 @@ same-length-10 c = search needs
 returns-8 : tie.Need-returns-8
 returns-8 c =
     let f = told (c .before .before .before .before .before .before .before .before .before .rule8 .given .1) (c .before .before .before .before .before .before .before .before .before .before .before .before .before .before .pre) in
-    λ s h. rw (c .onto-tape .ensures) (moved-8 h (c .before .before .before .before .before .before .before .before .before .rule8 .given .0 .0) (f .fits s h) (c .before .before .before .before .before .move-top2 .result) _ _ (c .before .before .before .before .before .move-top2 .ensures))
+    λ s h. rw (c .onto-tape .ensures) (moved-8 h (c .before .before .before .before .before .before .before .before .before .rule8 .given .0 .0) (f .fits s h) (c .before .before .before .before .before .move-onto2 .result) _ _ (c .before .before .before .before .before .move-onto2 .ensures))
 
 pub step-spec : {M : Type 1} → statement M
 step-spec =
@@ -160,12 +160,12 @@ step-spec =
     enum-known-rule-5
     pop-bullet-requires-2
     enum-known-rule-6
-    move-top-requires
+    move-onto-requires
     onto-log-requires
     enum-known-rule-7
     push-bullet-requires-2
     enum-known-rule-8
-    move-top-requires-2
+    move-onto-requires-2
     onto-tape-requires
     same-length
     returns
