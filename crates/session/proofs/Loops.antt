@@ -21,7 +21,7 @@ use Rattle.calls.proofs.Visits.{seek-none, seek-stops, seek-arrives, seek-goes-
 use Rattle.session.specs.Types.{dirMeant, sessionMeant, stopMeant, outcomeMeant}
 use Rattle.session.specs.Steps.{TokenAt, Ready}
 use Rattle.session.specs.Weight.{weightOf, Weighable, bulletsAfter, HasCount}
-use Rattle.session.specs.Passes.{PassIs, begunAt, lengthenedTo, endedBy}
+use Rattle.session.specs.Passes.{PassIs, begunAt, lengthenedTo, haltedBy}
 use Rattle.session.specs.declared.Session as Declared
 use Rattle.session.specs.declared.Outcome as Came
 use Rattle.session.specs.declared.Stop as DeclaredStop
@@ -92,7 +92,7 @@ module _ (way : Way) (T : Table) (r : Room) (v : Spot) where
 
 -- The outcome of a session that holds the state where the whole run ends.
 module _ (o : Came.Outcome) {w : List ℕ} {n : ℕ} {ls ts : List ℕ} {s : State} (t : TokenAt w n (o .session) ls ts s) (r : Room) (same-room : room ls ts ≡ r) where
-  comes-out : (run : Run) (x : DeclaredStop.Stop) → run ≡ endedAfter (o .steps) (o .peak) (o .carried) (moment s (o .session .position)) (stopMeant x) → outcomeMeant (endedBy o x) ls ts ≡ wound r run
+  comes-out : (run : Run) (x : DeclaredStop.Stop) → run ≡ endedAfter (o .steps) (o .peak) (o .carried) (moment s (o .session .position)) (stopMeant x) → outcomeMeant (haltedBy o x) ls ts ≡ wound r run
   comes-out run x f =
       let h = t .enters .holds in
       (λ i. record {
@@ -172,10 +172,10 @@ module _ {way : Way} {w : List ℕ} {n : ℕ} {r : Room} {v : Spot} {run : Run} 
     stop-here : (q : Option Stop) → ((c : ℕ) → stopBefore way (tableIn w n) (room ls ts) (suc c) standing ≡ q) → stopBefore way (tableIn w n) r (suc still) standing ≡ q
     stop-here q stops = subst (λ x. stopBefore way (tableIn w n) x (suc still) standing ≡ q) same-room (stops still)
 
-    pub loop-halted : {ls′ ts′ : List ℕ} (x : DeclaredStop.Stop) → PassIs w n (o .session) ls ts way (l .state) (Halted x) ls′ ts′ → outcomeMeant (endedBy o x) ls′ ts′ ≡ wound r run
+    pub loop-halted : {ls′ ts′ : List ℕ} (x : DeclaredStop.Stop) → PassIs w n (o .session) ls ts way (l .state) (Halted x) ls′ ts′ → outcomeMeant (haltedBy o x) ls′ ts′ ≡ wound r run
     loop-halted x p =
         let (stops, el, et) = p in
-        (λ i. outcomeMeant (endedBy o x) (el i) (et i))
+        (λ i. outcomeMeant (haltedBy o x) (el i) (et i))
         ∙ comes-out o (l .token) r same-room run x (left-by (suc still) one-left ∙ halted-here way (tableIn w n) r v (o .steps) (o .peak) (o .carried) standing (l .high) still (stopMeant x) (stop-here (some (stopMeant x)) stops))
 
     module _ {ls′ ts′ : List ℕ} {to : Declared.Session} (rule : Rule) (k : ℕ) (p : PassIs w n (o .session) ls ts way (l .state) (On to rule k) ls′ ts′) where
@@ -222,7 +222,7 @@ module _ {way : Way} {w : List ℕ} {n : ℕ} {r : Room} {v : Spot} {run : Run} 
           }
 
       -- A step to a visit ends the run there.
-      pub loop-found : isOn v (p .0) ≡ true → outcomeMeant (endedBy (lengthenedTo o n to (bulletsAfter rule b) k) Found) ls′ ts′ ≡ wound r run
+      pub loop-found : isOn v (p .0) ≡ true → outcomeMeant (haltedBy (lengthenedTo o n to (bulletsAfter rule b) k) Found) ls′ ts′ ≡ wound r run
       loop-found there =
           let (u, by-rule, e, stops, h, el, et, words) = p in
           let m : Moment = moment u (to .position) in

@@ -18,9 +18,9 @@ use Rattle.calls.specs.Top.{Which, shown, notShown, topOfLog, topOfTape, topBy,
 use Rattle.calls.proofs.Top.{alone-in, cut, cut-fits}
 use Rattle.session.specs.Steps.{TokenAt}
 use Rattle.session.specs.Extent.{spanBelow}
-use Rattle.session.specs.Place.{placeIn, placed}
+use Rattle.session.specs.Part.{placeIn, placed}
 use Rattle.session.specs.declared.Session as Declared
-use Rattle.session.specs.declared.part.Place.{Place}
+use Rattle.session.specs.declared.part.PartPlace.{PartPlace}
 use Rattle.session.proofs.Slices.{Lies}
 use Rattle.session.proofs.MovedWords.{lies-stacked, fewer, entry-found}
 use Rattle.session.proofs.Arrivals.{log-there, tape-there}
@@ -71,7 +71,7 @@ module _ {w : List ℕ} {n : ℕ} {se : Declared.Session} {ls ts : List ℕ} {s 
           (tape-there h (x ∷ t) e)
 
 -- What lies at that place of the chosen slice is the part that the call shows.
-module _ (which : Which) (g : Given) {p : Place} (is : p ≡ placed (topOf which g)) where
+module _ (which : Which) (g : Given) {p : PartPlace} (is : p ≡ placed (topOf which g)) where
   pub place-fits : (p .offset + p .size ≤ length (sliceGiven which g)) × (p .offset + p .size ≤ 16384)
   place-fits =
       let same : p .offset + p .size ≡ topOf which g .offset + topOf which g .size = ap (λ q. q .offset + q .size) is in

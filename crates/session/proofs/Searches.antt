@@ -21,7 +21,7 @@ use Rattle.calls.proofs.Nowhere.{nowhere-found}
 use Rattle.calls.proofs.Entering.{enters-fits, laidDown, held-laid-down, laid-room, laid-enters}
 use Rattle.session.specs.Types.{sessionMeant, stopMeant, outcomeMeant}
 use Rattle.session.specs.Steps.{TokenAt, Ready}
-use Rattle.session.specs.Passes.{endedBy, Winds}
+use Rattle.session.specs.Passes.{haltedBy, Winds}
 use Rattle.session.specs.declared.Session as Declared
 use Rattle.session.specs.declared.Outcome as Came
 use Rattle.session.specs.declared.Stop.the-variants.{None}
@@ -115,7 +115,7 @@ module _ {w : List ℕ} {n : ℕ} {se : Declared.Session} {ls ts : List ℕ} {s 
 
         -- and a walk of no step from there, as none
         pub search-none : {ls₂ ts₂ : List ℕ} → (ls₂ ≡ ls) × (ts₂ ≡ ts) → (a : Came.Outcome) (ls₃ ts₃ : List ℕ) → Winds w n se ls₂ ts₂ Forward 0 a ls₃ ts₃
-            → outcomeMeant (endedBy a None) ls₃ ts₃ ≡ wound r (seekBack T r v here)
+            → outcomeMeant (haltedBy a None) ls₃ ts₃ ≡ wound r (seekBack T r v here)
         search-none e a ls₃ ts₃ winds =
             let stays : Winds w n se ls ts Forward 0 a ls₃ ts₃ = rw (e .0, e .1) at winds in
             let k : outcomeMeant a ls₃ ts₃ ≡ wound r (ended T here spent) = rw (wind-none forward T r here) at (stays s h) in

@@ -2,7 +2,7 @@ pub mod Types
 pub mod Counting
 pub mod Extent
 pub mod Mover
-pub mod Place
+pub mod Part
 pub mod Steps
 pub mod Rules
 pub mod Weight

@@ -11,8 +11,8 @@ use Rattle.machine.specs.Machine.{State, turned, turn}
 use Rattle.calls.specs.Session
 use Rattle.calls.specs.Stops.{Way, forward, back, Moment, moment, room, greatest, isAnswer, nextBy, haltBefore, stopBefore}
 use Rattle.calls.specs.Winding.{carriedBy, wind}
-use Rattle.calls.specs.Calls.{wound, refusedOutcome}
-use Rattle.session.specs.Types.{wayMeant, stopMeant, outcomeMeant, lent}
+use Rattle.calls.specs.Calls.{wound}
+use Rattle.session.specs.Types.{wayMeant, stopMeant, outcomeMeant}
 use Rattle.session.specs.Steps.{TokenAt}
 use Rattle.session.specs.Rules.{RuleIs}
 use Rattle.session.specs.Weight.{weightOf}
@@ -28,18 +28,18 @@ use Rattle.session.specs.declared.winding.Pass.the-variants.{On, Halted}
 
 -- A session with its direction turned.
 abbrev pub turnedSession : Session.Session → Session.Session
-turnedSession s = record {
-  node = s .node;
-  dir = turned (s .dir);
-  position = s .position;
-  logLength = s .logLength;
-  tapeLength = s .tapeLength;
+turnedSession se = record {
+  node = se .node;
+  dir = turned (se .dir);
+  position = se .position;
+  logLength = se .logLength;
+  tapeLength = se .tapeLength;
 }
 
 -- What a step is made from: going back, the session and the state turned.
 abbrev pub facingSession : Way → Session.Session → Session.Session
-facingSession forward s = s
-facingSession back s = turnedSession s
+facingSession forward se = se
+facingSession back se = turnedSession se
 
 abbrev pub facing : Way → State → State
 facing forward s = s
@@ -52,20 +52,24 @@ HasNext back p = 1 ≤ p
 
 -- the session after a step that arrived as this one, which is still at the position before it
 abbrev pub sessionAfter : Way → Session.Session → Session.Session
-sessionAfter forward s = record {
-  node = s .node;
-  dir = s .dir;
-  position = s .position + 1;
-  logLength = s .logLength;
-  tapeLength = s .tapeLength;
+sessionAfter forward se = record {
+  node = se .node;
+  dir = se .dir;
+  position = se .position + 1;
+  logLength = se .logLength;
+  tapeLength = se .tapeLength;
 }
-sessionAfter back s = record {
-  node = s .node;
-  dir = turned (s .dir);
-  position = s .position - 1;
-  logLength = s .logLength;
-  tapeLength = s .tapeLength;
+sessionAfter back se = record {
+  node = se .node;
+  dir = turned (se .dir);
+  position = se .position - 1;
+  logLength = se .logLength;
+  tapeLength = se .tapeLength;
 }
+
+-- what the test of the answer promises
+abbrev pub TellsAnswer : List ℕ → ℕ → Declared.Session → Bool → Type 0
+TellsAnswer w n se b = (ls ts : List ℕ) (s : State) → TokenAt w n se ls ts s → b ≡ isAnswer (tableIn w n) s
 
 -- Whether a walk has come to its end: forward to the answer, back to the start.
 abbrev pub isEnd : Way → Table → Moment → Bool
@@ -120,15 +124,11 @@ begunAt n se b = record { session = se; steps = 0; stop = Spent; peak = weightOf
 abbrev pub lengthenedTo : Came.Outcome → ℕ → Declared.Session → ℕ → ℕ → Came.Outcome
 lengthenedTo o n to b k = record { session = to; steps = o .steps + 1; stop = Spent; peak = max (o .peak) (weightOf n to b); carried = o .carried + k }
 
-abbrev pub endedBy : Came.Outcome → DeclaredStop.Stop → Came.Outcome
-endedBy o x = record { session = o .session; steps = o .steps; stop = x; peak = o .peak; carried = o .carried }
+abbrev pub haltedBy : Came.Outcome → DeclaredStop.Stop → Came.Outcome
+haltedBy o x = record { session = o .session; steps = o .steps; stop = x; peak = o .peak; carried = o .carried }
 
 -- The whole loop answers the run from every state held.
 abbrev pub Winds : List ℕ → ℕ → Declared.Session → List ℕ → List ℕ → DeclaredWay.Way → ℕ → Came.Outcome → List ℕ → List ℕ → Type 0
 Winds w n se ls ts way count o ls′ ts′ =
     (s : State) → TokenAt w n se ls ts s
     → outcomeMeant o ls′ ts′ ≡ wound (room ls ts) (wind (wayMeant way) (tableIn w n) (room ls ts) count (moment s (se .position)))
-
--- Number k instead of a stop, whatever was lent: the session given, and nothing done.
-abbrev pub Refuses : Declared.Session → ℕ → Came.Outcome → Type 0
-Refuses se k o = (w : List ℕ) (n : ℕ) (ls ts : List ℕ) → outcomeMeant o ls ts ≡ refusedOutcome k (lent w n se ls ts)

@@ -1,6 +1,5 @@
 -- What the choice of a rule and the rules' functions promise: how the step goes from the state that the session and its slices hold.
 use mathlib.Core.Path.{_≡_}
-use mathlib.Core.Bool.{Bool}
 use mathlib.Core.Option.{none, some}
 use mathlib.Core.List.{List, _∷_}
 use Prim.Native.Nat.{ℕ, _+_, _-_, _≤_}
@@ -9,7 +8,6 @@ use borrow.Rule.Slice.PartMut.{midOf, putMid}
 use Rattle.term.specs.Table.{Table, tableIn, arity}
 use Rattle.machine.specs.Entries.{Entry, entry, Log, _▸_, howMany, topmost, rest, _onto_, bullet, held, Tape}
 use Rattle.machine.specs.Machine.{down, up, State, state, step}
-use Rattle.calls.specs.Stops.{isAnswer}
 use Rattle.calls.specs.Calls.{longest}
 use Rattle.session.specs.Steps.{TokenAt, Ready, StepIs}
 use Rattle.session.specs.Types.{dirMeant}
@@ -49,20 +47,12 @@ FitIs T s Unfit = step T s ≡ none
 abbrev pub Chooses : List ℕ → ℕ → Declared.Session → List ℕ → Fit → Type 0
 Chooses w n se ts f = (ls : List ℕ) (s : State) → TokenAt w n se ls ts s → FitIs (tableIn w n) s f
 
--- what the test of the answer promises
-abbrev pub TellsAnswer : List ℕ → ℕ → Declared.Session → Bool → Type 0
-TellsAnswer w n se b = (ls ts : List ℕ) (s : State) → TokenAt w n se ls ts s → b ≡ isAnswer (tableIn w n) s
-
 -- what the function of one rule requires
 pub record Fitting (w : List ℕ) (n : ℕ) (se : Declared.Session) (ls ts : List ℕ) (r : Rule) : Type 0 where
   pub ready : Ready w n se ls ts
   pub fits : (s : State) → TokenAt w n se ls ts s → RuleIs (tableIn w n) s r
 
--- and what it promises of every state held
-abbrev pub Steps : List ℕ → ℕ → Declared.Session → List ℕ → List ℕ → Stepped → List ℕ → List ℕ → Type 0
-Steps w n se ls ts r ls′ ts′ = (s : State) → TokenAt w n se ls ts s → StepIs w n se ls ts s r ls′ ts′
-
--- The same of the rules that only count a bullet's word, which lead to node j in direction d: nothing is written.
+-- What the functions promise of the rules that only count a bullet's word, which lead to node j in direction d: nothing is written.
 abbrev pub BulletComes : Declared.Session → ℕ → DeclaredDir.Dir → List ℕ → Stepped → Type 0
 BulletComes se j d ts r =
     (w : List ℕ) (n : ℕ) (ls : List ℕ) (s : State) → TokenAt w n se ls ts s

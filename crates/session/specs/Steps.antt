@@ -15,7 +15,7 @@ use Rattle.session.specs.declared.rules.Arrival as Arrived
 use Rattle.session.specs.declared.rules.Stepped.{Stepped}
 use Rattle.session.specs.declared.rules.Stepped.the-variants.{Made, LogFull, TapeFull}
 
--- The token of an unrefused call's session stands at this state of the plain machine.
+-- The token of an unrefused call's session stands at this state of the plain machine. (A record of one field, so that the checker carries it by its name and does not write out what it holds.)
 pub record TokenAt (w : List ℕ) (n : ℕ) (se : Declared.Session) (ls ts : List ℕ) (s : State) : Type 0 where
   pub enters : Enters (lent w n se ls ts) s
 
@@ -35,3 +35,7 @@ StepIs w n se ls ts s (Made a) ls′ ts′ =
 StepIs w n se ls ts s LogFull ls′ ts′ = (u : State) × (step (tableIn w n) s ≡ some u) × (length ls < logSize u) × (ls′ ≡ ls) × (ts′ ≡ ts)
 StepIs w n se ls ts s TapeFull ls′ ts′ =
     (u : State) × (step (tableIn w n) s ≡ some u) × (logSize u ≤ length ls) × (length ts < tapeSize u) × (ls′ ≡ ls) × (ts′ ≡ ts)
+
+-- What the functions of the rules promise, of every state held.
+abbrev pub Steps : List ℕ → ℕ → Declared.Session → List ℕ → List ℕ → Stepped → List ℕ → List ℕ → Type 0
+Steps w n se ls ts r ls′ ts′ = (s : State) → TokenAt w n se ls ts s → StepIs w n se ls ts s r ls′ ts′

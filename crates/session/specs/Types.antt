@@ -1,4 +1,5 @@
--- The declared types as the definitions' own: this paper's name and values for each of their cases.
+-- The declared types as the definitions' own, with document 01's name and values for each of their cases; what a call was lent, what a refusal answers, and where a word lies in memory.
+use mathlib.Core.Path.{_≡_}
 use mathlib.Core.Option.{Option, none, some}
 use mathlib.Core.List.{List}
 use Prim.Native.Nat.{ℕ, _+_, _*_}
@@ -6,6 +7,7 @@ use Rattle.machine.specs.Machine
 use Rattle.calls.specs.Session
 use Rattle.calls.specs.Stops
 use Rattle.calls.specs.Top
+use Rattle.calls.specs.Calls.{refusedOutcome}
 use Rattle.session.specs.declared.Dir.{Dir}
 use Rattle.session.specs.declared.Dir.the-variants.{Down, Up}
 use Rattle.session.specs.declared.Session as Declared
@@ -31,12 +33,12 @@ wayMeant Forward = Stops.forward
 wayMeant Back = Stops.back
 
 abbrev pub sessionMeant : Declared.Session → Session.Session
-sessionMeant s = record {
-  node = s .node;
-  dir = dirMeant (s .dir);
-  position = s .position;
-  logLength = s .«log_len»;
-  tapeLength = s .«tape_len»;
+sessionMeant se = record {
+  node = se .node;
+  dir = dirMeant (se .dir);
+  position = se .position;
+  logLength = se .«log_len»;
+  tapeLength = se .«tape_len»;
 }
 
 abbrev pub stopMeant : Stop → Session.Stop
@@ -68,12 +70,16 @@ outcomeMeant o ls ts = record {
 
 -- What a call was lent.
 abbrev pub lent : List ℕ → ℕ → Declared.Session → List ℕ → List ℕ → Session.Given
-lent w n s ls ts = record { table = w; n = n; session = sessionMeant s; log = ls; tape = ts }
+lent w n se ls ts = record { table = w; n = n; session = sessionMeant se; log = ls; tape = ts }
 
 -- A refusal's number, and 0 for none.
 abbrev pub numberMeant : Option ℕ → ℕ
 numberMeant none = 0
-numberMeant (some k) = k
+numberMeant (some number) = number
+
+-- A number instead of a stop, whatever was lent: the session given, and nothing done.
+abbrev pub Refuses : Declared.Session → ℕ → Outcome → Type 0
+Refuses se number o = (w : List ℕ) (n : ℕ) (ls ts : List ℕ) → outcomeMeant o ls ts ≡ refusedOutcome number (lent w n se ls ts)
 
 -- Where the word at index i lies in memory, of a slice that begins there. (A pointer is a block of memory and a byte in it; a word has four bytes.)
 abbrev pub wordPtr : ℕ × ℕ → ℕ → ℕ × ℕ

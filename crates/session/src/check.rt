@@ -41,7 +41,7 @@ fn entries_with(table: &[u32], n: u32, v: u32, have: usize) -> usize
     if have < a { 0 } else { have - a + 1 }
 }
 
-// How many entries words make, or that they make none.
+// How many entries words make, or that one of them makes no entry.
 pub(crate) enum Count {
     Entries(usize),
     Bad,
@@ -101,7 +101,8 @@ fn is_tape(table: &[u32], n: u32, words: &[u32]) -> bool
 fn walk_entries(table: &[u32], n: u32, session: Session, log: &[u32], tape: &[u32]) -> bool
     requires { ⌜ (session .«log_len» ≤ length (now log)) × (session .«tape_len» ≤ length (now tape)) ⌝ }
     requires { ⌜ (allZero (drop (session .«log_len») (now log)) ≡ true) × (allZero (drop (session .«tape_len») (now tape)) ≡ true) ⌝ }
-    ensures { λ r. ⌜ r ≡ not (isNone (stateIn (tableIn (now (table .entry)) n) (sessionMeant session) (now (log .entry)) (now (tape .entry)))) ⌝ }
+    ensures { λ r. ⌜ r ≡ not (isNone (stateIn (tableIn (now (table .entry)) n) (sessionMeant session)
+        (now (log .entry)) (now (tape .entry)))) ⌝ }
 {
     let node = session.node;
     let l = session.log_len as usize;
@@ -121,7 +122,8 @@ fn walk_entries(table: &[u32], n: u32, session: Session, log: &[u32], tape: &[u3
 
 // Whether the session and its slices hold a state: once both tops lie in their slices, first the look at the words above them, and only then the walk.
 fn holds_state(table: &[u32], n: u32, session: Session, log: &[u32], tape: &[u32]) -> bool
-    ensures { λ r. ⌜ r ≡ not (isNone (stateIn (tableIn (now (table .entry)) n) (sessionMeant session) (now (log .entry)) (now (tape .entry)))) ⌝ }
+    ensures { λ r. ⌜ r ≡ not (isNone (stateIn (tableIn (now (table .entry)) n) (sessionMeant session)
+        (now (log .entry)) (now (tape .entry)))) ⌝ }
 {
     let l = session.log_len as usize;
     let t = session.tape_len as usize;
@@ -156,13 +158,13 @@ pub(crate) fn lent_number(table: &[u32], n: u32, log: &[u32], tape: &[u32]) -> u
     0
 }
 
-// The number that refuses forward, back and go-to, or 0.
+// Numbers 7 to 9, which are put to every call on a session, or 0.
 pub(crate) fn call_number(table: &[u32], n: u32, session: Session, log: &[u32], tape: &[u32]) -> u32
     ensures { λ r. ⌜ r ≡ numberMeant (callNumber (lent (now (table .entry)) n session (now (log .entry)) (now (tape .entry)))) ⌝ }
 {
-    let k = lent_number(table, n, log, tape);
-    if k != 0 {
-        return k;
+    let lent = lent_number(table, n, log, tape);
+    if lent != 0 {
+        return lent;
     }
     if holds_state(table, n, session, log, tape) {
         0

@@ -5,8 +5,7 @@ ghost use lib.ListN.{length, replicate};
 ghost use Rattle.calls.specs.Calls.{openOf, windOf, forwardOf, backOf, goToOf};
 ghost use Rattle.calls.specs.Top.{asTold, topOf, seen};
 ghost use Rattle.calls.specs.Visits.{spot, backToOf, forwardToOf};
-ghost use Rattle.session.specs.Types.{openingMeant, outcomeMeant, wayMeant, whichMeant, dirMeant, lent, wordPtr};
-ghost use Rattle.session.specs.Passes.{Refuses};
+ghost use Rattle.session.specs.Types.{openingMeant, outcomeMeant, wayMeant, whichMeant, dirMeant, lent, Refuses, wordPtr};
 
 mod check;
 mod choice;
@@ -120,14 +119,14 @@ pub fn open(table: &[u32], n: u32, log: &mut [u32], tape: &mut [u32]) -> Opening
     }
 }
 
-// Number k instead of a stop: the session given, and nothing done.
-fn refused_outcome(session: Session, k: u32) -> Outcome
-    ensures { λ r. ⌜ Refuses session k r ⌝ }
+// A number instead of a stop: the session given, and nothing done.
+fn refused_outcome(session: Session, number: u32) -> Outcome
+    ensures { λ r. ⌜ Refuses session number r ⌝ }
 {
     Outcome {
         session: session,
         steps: 0,
-        stop: Stop::Refused(k),
+        stop: Stop::Refused(number),
         peak: 0,
         carried: 0,
     }
@@ -146,11 +145,31 @@ fn call(
     ensures { λ r. ⌜ outcomeMeant r (now (log .exit)) (now (tape .exit))
         ≡ windOf (wayMeant way) (lent (now (table .entry)) n session (now (log .entry)) (now (tape .entry))) count ⌝ }
 {
-    let k = call_number(table, n, session, &log[..], &tape[..]);
-    if k != 0 {
-        return refused_outcome(session, k);
+    let number = call_number(table, n, session, &log[..], &tape[..]);
+    if number != 0 {
+        return refused_outcome(session, number);
     }
     wind(table, n, session, log, tape, way, count)
+}
+
+// To a position: forward or back by the difference.
+pub fn go_to(
+    table: &[u32],
+    n: u32,
+    session: Session,
+    log: &mut [u32],
+    tape: &mut [u32],
+    position: u32,
+) -> Outcome
+    ensures { λ r. ⌜ outcomeMeant r (now (log .exit)) (now (tape .exit))
+        ≡ goToOf (lent (now (table .entry)) n session (now (log .entry)) (now (tape .entry))) position ⌝ }
+{
+    let here = session.position;
+    if here <= position {
+        forward(table, n, session, log, tape, position - here)
+    } else {
+        back(table, n, session, log, tape, here - position)
+    }
 }
 
 // Forward by a count: steps of the plain machine until a stop.
@@ -181,26 +200,6 @@ pub fn back(
         ≡ backOf (lent (now (table .entry)) n session (now (log .entry)) (now (tape .entry))) count ⌝ }
 {
     call(table, n, session, log, tape, Way::Back, count)
-}
-
-// To a position: forward or back by the difference.
-pub fn go_to(
-    table: &[u32],
-    n: u32,
-    session: Session,
-    log: &mut [u32],
-    tape: &mut [u32],
-    position: u32,
-) -> Outcome
-    ensures { λ r. ⌜ outcomeMeant r (now (log .exit)) (now (tape .exit))
-        ≡ goToOf (lent (now (table .entry)) n session (now (log .entry)) (now (tape .entry))) position ⌝ }
-{
-    let here = session.position;
-    if here <= position {
-        forward(table, n, session, log, tape, position - here)
-    } else {
-        back(table, n, session, log, tape, here - position)
-    }
 }
 
 // Back to the last earlier position at which the token stood on the node in the direction, found; or none, with the session and every word as given. The present position is not one.
@@ -245,7 +244,7 @@ pub fn forward_to(
 }
 
 // The top entry of log or tape, or the bullet on top of the tape, as that part of the lent slice itself, its top word last; empty where it is refused. The number,
-// 0 for none, goes out through `refusal`, and nothing else is written. Of equal words elsewhere in memory the clause `shown` would not tell; `there` does.
+// 0 for none, goes out through `refusal`, and nothing else is written. The clause `shown` fixes the words and the number, `there` the address, so that equal words elsewhere do not do.
 pub fn top<'a>(
     table: &[u32],
     n: u32,

@@ -5,27 +5,27 @@ ghost use Rattle.term.specs.Table.{tableIn};
 ghost use Rattle.calls.specs.Top.{topOf};
 ghost use Rattle.session.specs.Types.{lent, whichMeant};
 ghost use Rattle.session.specs.Extent.{ListIn};
-ghost use Rattle.session.specs.Place.{itemSpan, noPlace, placeIn, placed};
+ghost use Rattle.session.specs.Part.{itemSpan, noPlace, placeIn, placed};
 use crate::Session;
 use crate::Which;
 use crate::check::call_number;
 use crate::extent::span;
 
 // The index of a part's first word and how many words it has; or the number that refuses it.
-pub(crate) struct Place {
+pub(crate) struct PartPlace {
     pub(crate) offset: usize,
     pub(crate) size: usize,
     pub(crate) refusal: u32,
 }
 
-// Number k instead of a place.
-fn no_place(k: u32) -> Place
-    ensures { λ r. ⌜ r ≡ noPlace k ⌝ }
+// A number instead of a place.
+fn no_place(number: u32) -> PartPlace
+    ensures { λ r. ⌜ r ≡ noPlace number ⌝ }
 {
-    Place {
+    PartPlace {
         offset: 0,
         size: 0,
-        refusal: k,
+        refusal: number,
     }
 }
 
@@ -41,7 +41,7 @@ fn item_size(table: &[u32], n: u32, words: &[u32], len: usize) -> usize
 }
 
 // Where they lie, below the end of the list; 10 where it has no word.
-fn place_in(table: &[u32], n: u32, words: &[u32], len: u32) -> Place
+fn place_in(table: &[u32], n: u32, words: &[u32], len: u32) -> PartPlace
     requires { ⌜ ListIn (now words) len ⌝ }
     ensures { λ r. ⌜ r ≡ placeIn (tableIn (now (table .entry)) n) (now (words .entry)) len ⌝ }
 {
@@ -50,7 +50,7 @@ fn place_in(table: &[u32], n: u32, words: &[u32], len: u32) -> Place
     }
     let end = len as usize;
     let size = item_size(table, n, words, end);
-    Place {
+    PartPlace {
         offset: end - size,
         size: size,
         refusal: 0,
@@ -65,12 +65,12 @@ pub(crate) fn top_place(
     log: &[u32],
     tape: &[u32],
     which: Which,
-) -> Place
+) -> PartPlace
     ensures { λ r. ⌜ r ≡ placed (topOf (whichMeant which) (lent (now (table .entry)) n session (now (log .entry)) (now (tape .entry)))) ⌝ }
 {
-    let k = call_number(table, n, session, log, tape);
-    if k != 0 {
-        return no_place(k);
+    let number = call_number(table, n, session, log, tape);
+    if number != 0 {
+        return no_place(number);
     }
     match which {
         Which::Log => place_in(table, n, log, session.log_len),

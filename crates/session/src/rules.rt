@@ -5,7 +5,8 @@ ghost use lib.ListN.{length};
 ghost use Rattle.calls.specs.Calls.{longest};
 ghost use Rattle.term.specs.Table.{tableIn};
 ghost use Rattle.session.specs.Extent.{ListIn};
-ghost use Rattle.session.specs.Rules.{TellsAnswer, Fitting, Steps, BulletComes, BulletGoes, EndsFit, endsAfter, MovedOnto, ontoLog, ontoTape};
+ghost use Rattle.session.specs.Steps.{Steps};
+ghost use Rattle.session.specs.Rules.{Fitting, BulletComes, BulletGoes, EndsFit, endsAfter, MovedOnto, ontoLog, ontoTape};
 use crate::Dir;
 use crate::Session;
 use crate::choice::Rule;
@@ -34,23 +35,6 @@ pub(crate) enum Stepped {
 pub(crate) enum ListEnds {
     At(u32, u32, u32),
     NoRoom,
-}
-
-// Whether the token stands at the answer: down at an abstraction with an empty tape.
-pub(crate) fn is_answer(table: &[u32], n: u32, session: Session) -> bool
-    ensures { λ r. ⌜ TellsAnswer (now (table .entry)) n session r ⌝ }
-{
-    let dir = session.dir;
-    match dir {
-        Dir::Down => {
-            if session.tape_len == 0 {
-                term::kind(table, n, session.node) == 2
-            } else {
-                false
-            }
-        }
-        Dir::Up => false,
-    }
 }
 
 // Rules 1 and 7. A bullet goes onto the tape: the word 0, which lies above the top already.

@@ -70,7 +70,8 @@ pub(crate) fn seek_back(
     dir: Dir,
 ) -> Outcome
     requires { ⌜ Ready (now table) n session (now log) (now tape) ⌝ }
-    ensures { λ r. ⌜ SeeksBack (now (table .entry)) n session (now (log .entry)) (now (tape .entry)) (spot node (dirMeant dir)) r (now (log .exit)) (now (tape .exit)) ⌝ }
+    ensures { λ r. ⌜ SeeksBack (now (table .entry)) n session (now (log .entry)) (now (tape .entry)) (spot node (dirMeant dir)) r
+        (now (log .exit)) (now (tape .exit)) ⌝ }
 {
     let there = seek(
         table,

@@ -9,7 +9,7 @@ ghost use Rattle.session.specs.Weight.{weightOf, Weighable, bulletsAfter
 use crate::Session;
 use crate::choice::Rule;
 
-// X, how many binary digits n has: those of a word but for its leading zeroWords.
+// X, how many binary digits n has: those of a word but for its leading zeros.
 fn digits(n: u32) -> u32
     ensures { λ r. ⌜ r ≡ digitsOf n ⌝ }
 {

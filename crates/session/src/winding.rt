@@ -7,7 +7,7 @@ ghost use Rattle.calls.specs.Calls.{longest};
 ghost use Rattle.calls.specs.Visits.{spot};
 ghost use Rattle.session.specs.Types.{dirMeant, sessionMeant, wayMeant};
 ghost use Rattle.session.specs.Steps.{Ready, arrivedAt};
-ghost use Rattle.session.specs.Passes.{turnedSession, facingSession, HasNext, sessionAfter, TellsEnd, endStop, isFar, TellsBefore, Passes, begunAt, lengthenedTo, endedBy, Winds};
+ghost use Rattle.session.specs.Passes.{turnedSession, facingSession, HasNext, sessionAfter, TellsAnswer, TellsEnd, endStop, isFar, TellsBefore, Passes, begunAt, lengthenedTo, haltedBy, Winds};
 ghost use Rattle.session.specs.Visits.{Seeks};
 ghost use Rattle.session.specs.Weight.{Weighable};
 use crate::Dir;
@@ -19,7 +19,6 @@ use crate::choice::Rule;
 use crate::choice::chosen;
 use crate::rules::Arrival;
 use crate::rules::Stepped;
-use crate::rules::is_answer;
 use crate::rules::step;
 use crate::visits::stands_on;
 use crate::weight::bullets_after;
@@ -80,7 +79,8 @@ fn facing_session(session: Session, way: Way) -> Session
 
 // The session where a step leads.
 fn session_at(to: Arrival, dir: Dir, position: u32) -> Session
-    ensures { λ r. ⌜ r ≡ record { node = to .node; dir = dir; position = position; «log_len» = to .«log_len»; «tape_len» = to .«tape_len» } ⌝ }
+    ensures { λ r. ⌜ r
+        ≡ record { node = to .node; dir = dir; position = position; «log_len» = to .«log_len»; «tape_len» = to .«tape_len» } ⌝ }
 {
     Session {
         node: to.node,
@@ -103,6 +103,23 @@ fn after_step(session: Session, to: Arrival, way: Way) -> Session
             let again = turned_dir(dir);
             session_at(to, again, session.position - 1)
         }
+    }
+}
+
+// Whether the token stands at the answer: down at an abstraction with an empty tape.
+fn is_answer(table: &[u32], n: u32, session: Session) -> bool
+    ensures { λ r. ⌜ TellsAnswer (now (table .entry)) n session r ⌝ }
+{
+    let dir = session.dir;
+    match dir {
+        Dir::Down => {
+            if session.tape_len == 0 {
+                term::kind(table, n, session.node) == 2
+            } else {
+                false
+            }
+        }
+        Dir::Up => false,
     }
 }
 
@@ -136,7 +153,7 @@ fn is_far(session: Session, way: Way) -> bool
     }
 }
 
-// What ends a walk before a step, the count not used up, but for a full slice, which the mover finds. The tests are in the order of document 01. The rule is chosen in one place
+// What ends a walk before a step, the count not used up, but for a full slice, which the step finds. The tests are in the order of document 01. The rule is chosen in one place
 // for both ways, so that the compiler puts the choice into the loop.
 fn before_step(table: &[u32], n: u32, session: Session, tape: &[u32], way: Way) -> Before
     requires { ⌜ session .«tape_len» ≤ length (now tape) ⌝ }
@@ -245,7 +262,7 @@ fn lengthened(run: Outcome, n: u32, to: Session, bullets: u32, words: u32) -> Ou
 
 // The outcome with another stop than spent.
 pub(crate) fn halted(run: Outcome, stop: Stop) -> Outcome
-    ensures { λ r. ⌜ r ≡ endedBy run stop ⌝ }
+    ensures { λ r. ⌜ r ≡ haltedBy run stop ⌝ }
 {
     let session = run.session;
     Outcome {
@@ -271,7 +288,8 @@ pub(crate) fn seek(
     dir: Dir,
 ) -> Outcome
     requires { ⌜ Ready (now table) n session (now log) (now tape) ⌝ }
-    ensures { λ r. ⌜ Seeks (now (table .entry)) n session (now (log .entry)) (now (tape .entry)) way count (spot node (dirMeant dir)) r (now (log .exit)) (now (tape .exit)) ⌝ }
+    ensures { λ r. ⌜ Seeks (now (table .entry)) n session (now (log .entry)) (now (tape .entry)) way count (spot node (dirMeant dir)) r
+        (now (log .exit)) (now (tape .exit)) ⌝ }
 {
     let mut bullets = bullets_in(&tape[..session.tape_len as usize]);
     let mut run = begun(n, session, bullets);
@@ -305,7 +323,8 @@ pub(crate) fn wind(
     count: u32,
 ) -> Outcome
     requires { ⌜ Ready (now table) n session (now log) (now tape) ⌝ }
-    ensures { λ r. ⌜ Winds (now (table .entry)) n session (now (log .entry)) (now (tape .entry)) way count r (now (log .exit)) (now (tape .exit)) ⌝ }
+    ensures { λ r. ⌜ Winds (now (table .entry)) n session (now (log .entry)) (now (tape .entry)) way count r
+        (now (log .exit)) (now (tape .exit)) ⌝ }
 {
     seek(table, n, session, log, tape, way, count, 0, Dir::Down)
 }

@@ -8,7 +8,7 @@ use Rattle.calls.specs.Top.{log, tape, asTold, topOf, seen, sliceGiven}
 use Rattle.session.specs.declared.Which.{Which}
 use Rattle.session.specs.declared.Which.the-variants.{Log, Tape}
 use Rattle.session.specs.Types.{lent, whichMeant, wordPtr}
-use Rattle.session.specs.Place.{placed}
+use Rattle.session.specs.Part.{placed}
 use Rattle.session.proofs.Places.{place-fits, place-cut}
 use borrow.Author.Needs.{needs}
 use Rattle.session.proofs.top.Statement.{statement}

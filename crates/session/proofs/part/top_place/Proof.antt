@@ -7,10 +7,10 @@ use Rattle.calls.specs.Top.{shows, topBy, topOf}
 use Rattle.calls.proofs.Top.{top-refused, top-of-state}
 use Rattle.session.specs.declared.Which.{Which}
 use Rattle.session.specs.declared.Which.the-variants.{Log, Tape}
-use Rattle.session.specs.declared.part.Place.{Place}
+use Rattle.session.specs.declared.part.PartPlace.{PartPlace}
 use Rattle.session.specs.Types.{lent, whichMeant}
 use Rattle.session.specs.Steps.{Ready}
-use Rattle.session.specs.Place.{placed}
+use Rattle.session.specs.Part.{placed}
 use Rattle.session.proofs.Numbers.{number-some}
 use Rattle.session.proofs.Calls.{call-ready}
 use Rattle.session.proofs.Places.{log-place, tape-place}
@@ -28,7 +28,7 @@ ready u =
     call-ready (a .table .now) (a .n) (a .session) (a .log .now) (a .tape .now) (sym (u .if1 .left) ∙ u .before .call-number .ensures)
 
 -- the place of what the state shows of the list that is told
-as-shown : (u : tie.Else1) (x : Which) → u .before .before .before .before .before .args .which ≡ x → {p : Place} → p ≡ placed (topBy none (shows (whichMeant x) (ready u .state)))
+as-shown : (u : tie.Else1) (x : Which) → u .before .before .before .before .before .args .which ≡ x → {p : PartPlace} → p ≡ placed (topBy none (shows (whichMeant x) (ready u .state)))
     → p ≡ placed (topOf (whichMeant (u .before .before .before .before .before .args .which)) (given u))
 as-shown u x e is =
     is ∙ sym (ap placed (top-of-state (whichMeant x) (given u) (ready u .state) (ready u .token .enters))) ∙ ap (λ y. placed (topOf (whichMeant y) (given u))) (sym e)

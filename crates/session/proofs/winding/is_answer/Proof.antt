@@ -13,8 +13,8 @@ use Rattle.machine.specs.Entries.{entry, bullet, held, Tape, tapeWords}
 use Rattle.machine.specs.Machine.{down, up}
 use Rattle.calls.specs.Stops.{isAnswerBy}
 use Rattle.session.specs.Types.{dirMeant}
-use Rattle.session.proofs.rules.is_answer.Statement.{statement}
-use Rattle.session.proofs.rules.is_answer.Tie as tie
+use Rattle.session.proofs.winding.is_answer.Statement.{statement}
+use Rattle.session.proofs.winding.is_answer.Tie as tie
 
 -- Every item has a word.
 empty-tape : (t : Tape) → 0 ≡ length (tapeWords t) → t ≡ []
