@@ -2,9 +2,7 @@
 use mathlib.Core.Path.{_≡_, refl, sym, ap, _∙_}
 use mathlib.Core.List.{List}
 use Prim.Native.Nat.{ℕ}
-use Rattle.machine.specs.Machine
 use Rattle.calls.specs.Session
-use Rattle.calls.specs.Top
 use Rattle.session.specs.Types.{dirMeant, whichMeant, sessionMeant, stopMeant, openingMeant, outcomeMeant}
 use Rattle.session.specs.declared.Dir.{Dir}
 use Rattle.session.specs.declared.Dir.the-variants.{Down, Up}
@@ -16,34 +14,19 @@ use Rattle.session.specs.declared.Which.the-variants.{Log, Tape}
 use Rattle.session.specs.declared.Opening.{Opening}
 use Rattle.session.specs.declared.Outcome.{Outcome}
 
--- what is mapped back as it was is told apart
-from-back : {A B : Type 0} (f : A → B) (back : B → A) → ((a : A) → back (f a) ≡ a) → (a b : A) → f a ≡ f b → a ≡ b
-from-back f back h a b e = sym (h a) ∙ ap back e ∙ h b
-
-dirBack : Machine.Dir → Dir
-dirBack Machine.down = Down
-dirBack Machine.up = Up
-
-dir-back : (d : Dir) → dirBack (dirMeant d) ≡ d
-unfolding dirBack
-dir-back Down = refl
-dir-back Up = refl
-
 pub dir-once : (d e : Dir) → dirMeant d ≡ dirMeant e → d ≡ e
-dir-once = from-back (λ d. dirMeant d) dirBack dir-back
-
-whichBack : Top.Which → Which
-whichBack Top.log = Log
-whichBack Top.tape = Tape
-
-which-back : (x : Which) → whichBack (whichMeant x) ≡ x
-unfolding whichBack
-which-back Log = refl
-which-back Tape = refl
+dir-once Down Down h = refl
+dir-once Down Up h = cc
+dir-once Up Down h = cc
+dir-once Up Up h = refl
 
 pub which-once : (x y : Which) → whichMeant x ≡ whichMeant y → x ≡ y
-which-once = from-back (λ x. whichMeant x) whichBack which-back
+which-once Log Log h = refl
+which-once Log Tape h = cc
+which-once Tape Log h = cc
+which-once Tape Tape h = refl
 
+-- a stop by what it means
 stopBack : Session.Stop → Stop
 stopBack Session.spent = Spent
 stopBack Session.jam = Jam
@@ -70,7 +53,7 @@ stop-back Found = refl
 stop-back None = refl
 
 pub stop-once : (x y : Stop) → stopMeant x ≡ stopMeant y → x ≡ y
-stop-once = from-back (λ x. stopMeant x) stopBack stop-back
+stop-once x y h = sym (stop-back x) ∙ ap stopBack h ∙ stop-back y
 
 pub session-once : (s u : Declared.Session) → sessionMeant s ≡ sessionMeant u → s ≡ u
 session-once s u e =

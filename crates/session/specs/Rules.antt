@@ -70,11 +70,12 @@ partFrom m s = midOf m (length s - m) s
 abbrev pub withPart : ℕ → List ℕ → List ℕ → List ℕ
 withPart m s part = putMid m (length s - m) s part
 
--- Where lists of `top` and `end` words end once the mover went from the one to the other, with `own` words made above those that it moved; and that these lengths are right.
+-- Where lists of `top` and `end` words end once the mover went from the one to the other, with `own` words made above those that it moved.
 abbrev pub endsAfter : Moving → ℕ → ℕ → ℕ → ListEnds
 endsAfter (Moved k) top end own = At (top - k) (end + k + own) k
 endsAfter Moving.NoRoom top end own = NoRoom
 
+-- what these lengths require: no more words went than there were, and those that came fit
 abbrev pub EndsFit : Moving → ℕ → ℕ → ℕ → Type 0
 EndsFit (Moved k) top end own = (k ≤ top) × (end + k + own ≤ longest)
 EndsFit Moving.NoRoom top end own = Unit

@@ -2,8 +2,8 @@
 use mathlib.Core.Path.{ap, _∙_}
 use Rattle.machine.specs.Machine.{State}
 use Rattle.session.specs.Types.{wayMeant, sessionMeant}
-use Rattle.session.specs.Steps.{TokenAt}
-use Rattle.session.specs.Passes.{BeforeIs}
+use Rattle.session.specs.Steps.{TokenAt, StepIs}
+use Rattle.session.specs.Passes.{facing, BeforeIs}
 use Rattle.session.specs.declared.winding.Before.the-variants.{Makes}
 use Rattle.session.proofs.Facing.{token-facing, position-facing}
 use Rattle.session.proofs.Passes.{halts, fits-facing, log-fills, tape-fills, goes-on}
@@ -34,6 +34,13 @@ step-requires c κs =
     let h = p .pre .token in
     fits-facing h (wayMeant (p .args .way)) (c .before .before .before .before .told2 .given .0 .0) (makes (c .before .before .before) (p .pre .state) h) (c .before .before .facing-session .result) (token-facing h (wayMeant (p .args .way)) (c .before .before .facing-session .ensures))
 
+-- what the step did, from that state
+stepped : (u : tie.After-slice-known4) (s : State) → (let a = u .before .before .before .before .before .before .before .before .before .before .before .before .before .before .before .before .args in
+    let f = u .before .before .before .before .before .before .before .facing-session in
+    let k = u .before .before .before .before .step in
+    TokenAt (a .table .now) (a .n) (a .session) (a .log .now) (a .tape .now) s → StepIs (a .table .now) (a .n) (f .result) (a .log .now) (a .tape .now) (facing (wayMeant (a .way)) s) (k .result) (k .last .1 .1 .1 .0) (k .last .1 .1 .1 .1 .0))
+stepped u s h = u .before .before .before .before .step .ensures _ (token-facing h (wayMeant (u .before .before .before .before .before .before .before .before .before .before .before .before .before .before .before .before .args .way)) (u .before .before .before .before .before .before .before .facing-session .ensures))
+
 enum-known-stepped : tie.Need-enum-known-stepped
 enum-known-stepped c = search needs
 
@@ -60,14 +67,14 @@ same-length-3 c = search needs
 
 returns-2 : tie.Need-returns-2
 returns-2 c =
-    let a = c .before .before .before .before .before .before .before .before .before .before .before .before .before .before .before .before .before .before .before .before .args in
-    let way = wayMeant (a .way) in
-    let k = c .before .before .before .before .before .before .before .before .step in
-    let f = c .before .before .before .before .before .before .before .before .before .before .before .facing-session in
+    let u = c .before .before .before .before in
+    let way = wayMeant (u .before .before .before .before .before .before .before .before .before .before .before .before .before .before .before .before .args .way) in
+    let f = u .before .before .before .before .before .before .before .facing-session in
+    let k = u .before .before .before .before .step in
     λ s h.
-    goes-on h way (c .before .before .before .before .before .before .before .before .before .before .before .before .before .told2 .given .0 .0) (makes (c .before .before .before .before .before .before .before .before .before .before .before .before) s h) (f .result) (k .last .1 .1 .1 .0) (k .last .1 .1 .1 .1 .0) (k .kept .1 .1 .1 .0) (k .kept .1 .1 .1 .1 .0)
-    (c .before .before .stepped .given .0 .0) (c .after-step .result) (rw (c .before .before .stepped .given .1) at (k .ensures _ (token-facing h way (f .ensures))))
-    (ap (λ x. x .position) (f .ensures) ∙ position-facing way (sessionMeant (a .session))) (c .after-step .ensures)
+    goes-on h way (u .before .before .before .before .before .before .before .before .before .told2 .given .0 .0) (makes (u .before .before .before .before .before .before .before .before) s h) (f .result) _ _ (k .kept .1 .1 .1 .0) (k .kept .1 .1 .1 .1 .0)
+    (c .before .before .stepped .given .0 .0) (c .after-step .result) (rw (c .before .before .stepped .given .1) at (stepped u s h))
+    (ap (λ x. x .position) (f .ensures) ∙ position-facing way (sessionMeant (u .before .before .before .before .before .before .before .before .before .before .before .before .before .before .before .before .args .session))) (c .after-step .ensures)
 
 same-length-4 : tie.Need-same-length-4
 same-length-4 c = search needs
@@ -77,12 +84,8 @@ same-length-5 c = search needs
 
 returns-3 : tie.Need-returns-3
 returns-3 c =
-    let way = wayMeant (c .before .before .before .before .before .before .before .before .before .before .before .before .before .before .before .before .before .before .args .way) in
-    let k = c .before .before .before .before .before .before .step in
-    let f = c .before .before .before .before .before .before .before .before .before .facing-session in
-    λ s h.
-    log-fills h way (c .before .before .before .before .before .before .before .before .before .before .before .told2 .given .0 .0) (makes (c .before .before .before .before .before .before .before .before .before .before) s h) (f .result) (k .last .1 .1 .1 .0) (k .last .1 .1 .1 .1 .0)
-    (rw (c .enum-told .given .1) at (k .ensures _ (token-facing h way (f .ensures))))
+    let u = c .before .before in
+    λ s h. log-fills h (wayMeant (u .before .before .before .before .before .before .before .before .before .before .before .before .before .before .before .before .args .way)) (u .before .before .before .before .before .before .before .before .before .told2 .given .0 .0) (makes (u .before .before .before .before .before .before .before .before) s h) (u .before .before .before .before .before .before .before .facing-session .result) _ _ (rw (c .enum-told .given .1) at (stepped u s h))
 
 same-length-6 : tie.Need-same-length-6
 same-length-6 c = search needs
@@ -92,12 +95,8 @@ same-length-7 c = search needs
 
 returns-4 : tie.Need-returns-4
 returns-4 c =
-    let way = wayMeant (c .before .before .before .before .before .before .before .before .before .before .before .before .before .before .before .before .before .before .args .way) in
-    let k = c .before .before .before .before .before .before .step in
-    let f = c .before .before .before .before .before .before .before .before .before .facing-session in
-    λ s h.
-    tape-fills h way (c .before .before .before .before .before .before .before .before .before .before .before .told2 .given .0 .0) (makes (c .before .before .before .before .before .before .before .before .before .before) s h) (f .result) (k .last .1 .1 .1 .0) (k .last .1 .1 .1 .1 .0)
-    (rw (c .enum-told2 .given .1) at (k .ensures _ (token-facing h way (f .ensures))))
+    let u = c .before .before in
+    λ s h. tape-fills h (wayMeant (u .before .before .before .before .before .before .before .before .before .before .before .before .before .before .before .before .args .way)) (u .before .before .before .before .before .before .before .before .before .told2 .given .0 .0) (makes (u .before .before .before .before .before .before .before .before) s h) (u .before .before .before .before .before .before .before .facing-session .result) _ _ (rw (c .enum-told2 .given .1) at (stepped u s h))
 
 pub one-pass-spec : {M : Type 1} → statement M
 one-pass-spec =
