@@ -6,7 +6,7 @@ use Prim.Native.Nat.{ℕ, _≤_}
 use Rattle.term.specs.Table.{Table, tableIn}
 use Rattle.term.specs.Facts.{Facts}
 use Rattle.term.proofs.Facts.{accepted-facts}
-use Rattle.machine.specs.Machine.{Dir, State}
+use Rattle.machine.specs.Machine.{Dir, down, State}
 use Rattle.machine.specs.Good.{Good}
 use Rattle.calls.specs.Session.{Stop, spent}
 use Rattle.calls.specs.Stops.{Way, forward, back, Moment, moment, Room, room, greatest}
@@ -19,12 +19,14 @@ use Rattle.calls.proofs.Visits.{wind-none, sought, each-sought}
 use Rattle.calls.proofs.Retrace.{backed, again}
 use Rattle.calls.proofs.Nowhere.{nowhere-found}
 use Rattle.calls.proofs.Entering.{enters-fits, laidDown, held-laid-down, laid-room, laid-enters}
-use Rattle.session.specs.Types.{sessionMeant, stopMeant, outcomeMeant}
+use Rattle.session.specs.Types.{wayMeant, sessionMeant, stopMeant, outcomeMeant}
 use Rattle.session.specs.Steps.{TokenAt, Ready}
 use Rattle.session.specs.Passes.{haltedBy, Winds}
+use Rattle.session.specs.Visits.{Seeks}
 use Rattle.session.specs.declared.Session as Declared
 use Rattle.session.specs.declared.Outcome as Came
 use Rattle.session.specs.declared.Stop.the-variants.{None}
+use Rattle.session.specs.declared.winding.Way as DeclaredWay
 use Rattle.session.specs.declared.winding.Way.the-variants.{Forward}
 
 module _ {w : List ℕ} {n : ℕ} {se : Declared.Session} {ls ts : List ℕ} {s : State} (h : TokenAt w n se ls ts s) where
@@ -50,7 +52,7 @@ module _ {w : List ℕ} {n : ℕ} {se : Declared.Session} {ls ts : List ℕ} {s 
   fits = enters-fits _ s (h .enters)
 
   -- no spot at all
-  pub search-nowhere : (way : Way) (d : Dir) (count : ℕ) → seek way T r (spot 0 d) count here ≡ wind way T r count here
+  search-nowhere : (way : Way) (d : Dir) (count : ℕ) → seek way T r (spot 0 d) count here ≡ wind way T r count here
   search-nowhere way d count = nowhere-found T r facts here good fits way d count
 
   -- back to a spot
@@ -120,3 +122,8 @@ module _ {w : List ℕ} {n : ℕ} {se : Declared.Session} {ls ts : List ℕ} {s 
             let stays : Winds w n se ls ts Forward 0 a ls₃ ts₃ = rw (e .0, e .1) at winds in
             let k : outcomeMeant a ls₃ ts₃ ≡ wound r (ended T here spent) = rw (wind-none forward T r here) at (stays s h) in
             rw unseen (λ i. record { session = k i .session; steps = k i .steps; stop = Stop.none; peak = k i .peak; carried = k i .carried; log = k i .log; tape = k i .tape })
+
+-- A search for node 0 winds.
+pub nowhere-winds : (w : List ℕ) (n : ℕ) (se : Declared.Session) (ls ts : List ℕ) (way : DeclaredWay.Way) (count : ℕ) (o : Came.Outcome) (ls′ ts′ : List ℕ)
+    → Seeks w n se ls ts way count (spot 0 down) o ls′ ts′ → Winds w n se ls ts way count o ls′ ts′
+nowhere-winds w n se ls ts way count o ls′ ts′ i s h = i s h ∙ ap (wound (room ls ts)) (search-nowhere h (wayMeant way) down count)

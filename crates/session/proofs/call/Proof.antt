@@ -27,8 +27,7 @@ returns : tie.Need-returns
 returns c =
     let a = c .before .before .before .before .before .before .before .before .args in
     let k = c .before .before .call-number in
-    c .refused-outcome .ensures (a .table .now) (a .n) (a .log .now) (a .tape .now)
-    ∙ sym (call-refused (a .table .now) (a .n) (a .session) (a .log .now) (a .tape .now) (wayMeant (a .way)) (k .result) (a .count) (k .ensures) (c .before .if1 .taken))
+    call-refused (a .table .now) (a .n) (a .session) (a .log .now) (a .tape .now) (wayMeant (a .way)) (a .count) (k .result) (c .refused-outcome .result) (k .ensures) (c .before .if1 .taken) (c .refused-outcome .ensures)
 
 wind-requires : tie.Need-wind-requires
 wind-requires c κs = let a = c .before .before .before .before .before .before .before .before .before .args in call-ready (a .table .now) (a .n) (a .session) (a .log .now) (a .tape .now) (unrefused (c .before .before))
@@ -42,9 +41,8 @@ same-length-4 c = search needs
 returns-2 : tie.Need-returns-2
 returns-2 c =
     let a = c .before .before .before .before .before .before .before .before .before .before .before .before .before .before .args in
-    let e = unrefused (c .before .before .before .before .before .before .before) in
-    let r = call-ready (a .table .now) (a .n) (a .session) (a .log .now) (a .tape .now) e in
-    c .before .before .before .before .wind .ensures (r .state) (r .token) ∙ sym (call-winds (a .table .now) (a .n) (a .session) (a .log .now) (a .tape .now) e (wayMeant (a .way)) (a .count))
+    let k = c .before .before .before .before .wind in
+    call-winds (a .table .now) (a .n) (a .session) (a .log .now) (a .tape .now) (unrefused (c .before .before .before .before .before .before .before)) (a .way) (a .count) (k .result) (k .last .1 .1 .1 .0) (k .last .1 .1 .1 .1 .0) (k .ensures)
 
 pub call-spec : {M : Type 1} → statement M
 call-spec =

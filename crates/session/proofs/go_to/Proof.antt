@@ -1,5 +1,4 @@
 -- Go-to: forward or back by the difference.
-use mathlib.Core.Path.{_∙_}
 use Rattle.session.specs.Types.{lent}
 use Rattle.session.proofs.Calls.{goes-forward, goes-back}
 use borrow.Author.Needs.{needs}
@@ -22,7 +21,10 @@ same-length-2 : tie.Need-same-length-2
 same-length-2 c = search needs
 
 returns : tie.Need-returns
-returns c = let a = c .before .before .before .before .before .before .before .before .before .before .before .args in c .before .before .before .before .forward .ensures ∙ goes-forward (lent (a .table .now) (a .n) (a .session) (a .log .now) (a .tape .now)) (a .position) (c .before .before .before .before .before .before .before .if1 .taken)
+returns c =
+    let a = c .before .before .before .before .before .before .before .before .before .before .before .args in
+    let k = c .before .before .before .before .forward in
+    goes-forward (lent (a .table .now) (a .n) (a .session) (a .log .now) (a .tape .now)) (a .position) (k .result) (k .last .1 .1 .1 .0) (k .last .1 .1 .1 .1 .0) (c .before .before .before .before .before .before .before .if1 .taken) (k .ensures)
 
 same-length-3 : tie.Need-same-length-3
 same-length-3 c = search needs
@@ -31,7 +33,10 @@ same-length-4 : tie.Need-same-length-4
 same-length-4 c = search needs
 
 returns-2 : tie.Need-returns-2
-returns-2 c = let a = c .before .before .before .before .before .before .before .before .before .before .before .args in c .before .before .before .before .back .ensures ∙ goes-back (lent (a .table .now) (a .n) (a .session) (a .log .now) (a .tape .now)) (a .position) (c .before .before .before .before .before .before .before .if1 .left)
+returns-2 c =
+    let a = c .before .before .before .before .before .before .before .before .before .before .before .args in
+    let k = c .before .before .before .before .back in
+    goes-back (lent (a .table .now) (a .n) (a .session) (a .log .now) (a .tape .now)) (a .position) (k .result) (k .last .1 .1 .1 .0) (k .last .1 .1 .1 .1 .0) (c .before .before .before .before .before .before .before .if1 .left) (k .ensures)
 
 pub go-to-spec : {M : Type 1} → statement M
 go-to-spec =

@@ -1,10 +1,5 @@
 -- `wind`: a search that never finds.
-use mathlib.Core.Path.{ap, _∙_}
-use Rattle.machine.specs.Machine.{down}
-use Rattle.calls.specs.Stops.{room}
-use Rattle.calls.specs.Calls.{wound}
-use Rattle.session.specs.Types.{wayMeant}
-use Rattle.session.proofs.Searches.{search-nowhere}
+use Rattle.session.proofs.Searches.{nowhere-winds}
 use borrow.Author.Needs.{needs}
 use Rattle.session.proofs.winding.wind.Statement.{statement}
 use Rattle.session.proofs.winding.wind.Tie as tie
@@ -19,9 +14,10 @@ same-length-2 : tie.Need-same-length-2
 same-length-2 c = search needs
 
 returns : tie.Need-returns
-returns c = λ s h.
+returns c =
     let a = c .before .before .before .before .before .before .before .before .before .before .args in
-    c .before .before .before .before .seek .ensures s h ∙ ap (wound (room (a .log .now) (a .tape .now))) (search-nowhere h (wayMeant (a .way)) down (a .count))
+    let k = c .before .before .before .before .seek in
+    nowhere-winds (a .table .now) (a .n) (a .session) (a .log .now) (a .tape .now) (a .way) (a .count) (k .result) (k .last .1 .1 .1 .0) (k .last .1 .1 .1 .1 .0) (k .ensures)
 
 pub wind-spec : {M : Type 1} → statement M
 wind-spec = tie.close (tie.spec seek-requires same-length same-length-2 returns)
