@@ -9,6 +9,7 @@ use crate::words::after_parts;
 use crate::words::bytes_before;
 use crate::words::bytes_through;
 use crate::words::is_number;
+use crate::words::least;
 use crate::words::nth_part;
 use crate::words::number_at;
 use crate::words::number_in;
@@ -24,25 +25,22 @@ fn meant_byte(b: u8) -> u8 {
 
 // Puts bytes into the text from `at`; how long it is then. What does not fit is left out.
 fn append(text: &mut [u8], at: usize, bytes: &[u8]) -> usize {
-    let mut end = at;
+    let start = least(at, text.len());
+    let k = least(bytes.len(), text.len() - start);
     let mut i = 0;
-    while i < bytes.len() {
-        if text.len() <= end {
-            return end;
-        }
-        text[end] = meant_byte(bytes[i]);
-        end += 1;
+    while i < k {
+        text[start + i] = meant_byte(bytes[i]);
         i += 1;
     }
-    end
+    start + k
 }
 
 fn append_often(text: &mut [u8], at: usize, bytes: &[u8], times: u32) -> usize {
     let mut end = at;
-    let mut left = times;
-    while 0 < left {
+    let mut i = 0;
+    while i < times {
         end = append(text, end, bytes);
-        left -= 1;
+        i += 1;
     }
     end
 }

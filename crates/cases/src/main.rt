@@ -13,7 +13,6 @@ use command::Plain;
 use command::Topic;
 use command::dialect_of;
 use command::dir_on;
-use command::is_top;
 use command::plain_of;
 use command::row_of;
 use command::topic_of;
@@ -25,7 +24,6 @@ use desk::with_session;
 use desk::with_text;
 use lent::changed;
 use moves::made;
-use moves::top_made;
 use session::Dir;
 use session::Session;
 use show::show;
@@ -74,8 +72,8 @@ fn accept_shown(line: &[u8], d: Desk, table: &[u32]) -> Desk {
     d
 }
 
-// Makes the calls of a line on what is lent, or asks for a top entry, which leaves the desk as it was.
-fn called(
+// Does what the line says of the session on what is lent, and shows the answer and both slices.
+fn on_session(
     line: &[u8],
     row: usize,
     d: Desk,
@@ -83,39 +81,15 @@ fn called(
     log: &mut [u32],
     tape: &mut [u32],
 ) -> Desk {
-    if is_top(row) {
-        top_made(row, d, table, &log[..], &tape[..]);
-        d
-    } else {
-        made(line, row, d, table, log, tape)
-    }
-}
-
-// Does what the line says of the session, and shows the answer and both slices.
-fn on_session(
-    line: &[u8],
-    row: usize,
-    desk: Desk,
-    table: &[u32],
-    log: &mut [u32],
-    tape: &mut [u32],
-) -> Desk {
-    let k = least(desk.table, table.len());
-    let l = least(desk.log, log.len());
-    let t = least(desk.tape, tape.len());
+    let k = least(d.table, table.len());
+    let l = least(d.log, log.len());
+    let t = least(d.tape, tape.len());
     show_name(line, words_of(row));
-    let d = called(
-        line,
-        row,
-        desk,
-        &table[0..k],
-        &mut log[0..l],
-        &mut tape[0..t],
-    );
-    show_slice(b" L", &log[..], desk.log_size);
-    show_slice(b" T", &tape[..], desk.tape_size);
+    let e = made(line, row, d, &table[0..k], &mut log[0..l], &mut tape[0..t]);
+    show_slice(b" L", &log[..], d.log_size);
+    show_slice(b" T", &tape[..], d.tape_size);
     show(b"\n");
-    d
+    e
 }
 
 // Does what the line at an index says; the desk after it.

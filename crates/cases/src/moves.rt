@@ -3,6 +3,7 @@ use crate::command::SessionCall;
 use crate::command::call_of;
 use crate::command::count_of;
 use crate::command::is_compared;
+use crate::command::is_top;
 use crate::command::is_walk;
 use crate::command::which_of;
 use crate::desk::Desk;
@@ -109,7 +110,17 @@ fn how_often(walks: bool, count: u32) -> u64 {
     if walks { count as u64 + 1 } else { 1 }
 }
 
+// Asks for the top entry of log or tape, and shows the answer. Its part may be of either: one lifetime for both.
+fn top_made<'a>(row: usize, d: Desk, table: &[u32], log: &'a [u32], tape: &'a [u32]) {
+    let s = d.session;
+    // Neither 0 nor a refusal, so that a number left unwritten shows.
+    let mut refusal: u32 = 99;
+    let part = top(table, d.n, s, log, tape, which_of(row), &mut refusal);
+    show_top(refusal, part);
+}
+
 // Makes the call of a line; or, in a walk, one with 0 and as many with 1 as the count says. Shows the last answer, and how many states of a walk back agree.
+// Where a top entry is asked for the desk stays as it was.
 pub(crate) fn made(
     line: &[u8],
     row: usize,
@@ -118,6 +129,10 @@ pub(crate) fn made(
     log: &mut [u32],
     tape: &mut [u32],
 ) -> Desk {
+    if is_top(row) {
+        top_made(row, desk, table, &log[..], &tape[..]);
+        return desk;
+    }
     let which = call_of(line, row);
     let count = count_of(line, row);
     let walks = is_walk(row);
@@ -140,13 +155,4 @@ pub(crate) fn made(
     show_made(row, o, agreed);
     let last = o.session;
     with_session(desk, last)
-}
-
-// Asks for the top entry of log or tape, and shows the answer. Its part may be of either: one lifetime for both.
-pub(crate) fn top_made<'a>(row: usize, d: Desk, table: &[u32], log: &'a [u32], tape: &'a [u32]) {
-    let s = d.session;
-    // Neither 0 nor a refusal, so that a number left unwritten shows.
-    let mut refusal: u32 = 99;
-    let part = top(table, d.n, s, log, tape, which_of(row), &mut refusal);
-    show_top(refusal, part);
 }

@@ -108,11 +108,12 @@ pub(crate) fn number_at(line: &[u8], k: usize) -> u32 {
 }
 
 pub(crate) fn same_bytes(a: &[u8], b: &[u8]) -> bool {
-    if a.len() != b.len() {
+    let k = a.len();
+    if b.len() != k {
         return false;
     }
     let mut i = 0;
-    while i < a.len() {
+    while i < k {
         if a[i] != b[i] {
             return false;
         }

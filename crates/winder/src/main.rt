@@ -27,7 +27,8 @@ fn main() {
         return;
     }
     let first = o.session;
-    print_walk(&table, r.n, first, &mut log, &mut tape);
+    let mut out = [0u8; 65536];
+    print_walk(&table, r.n, first, &mut log, &mut tape, &mut out);
 }
 
 fn print_refusal(number: u32) {
@@ -43,18 +44,24 @@ fn is_spent(stop: Stop) -> bool {
 }
 
 // At most 10,000 steps, a state and a step at a time. A write that fails ends the walk.
-fn print_walk(table: &[u32], n: u32, first: Session, log: &mut [u32], tape: &mut [u32]) {
-    let mut out = [0u8; 65536];
+fn print_walk(
+    table: &[u32],
+    n: u32,
+    first: Session,
+    log: &mut [u32],
+    tape: &mut [u32],
+    out: &mut [u8],
+) {
     let mut s = first;
     let mut at = 0;
     let mut left: u32 = 10000;
     while 0 < left {
-        at = line::put_state(&mut out, at, s, log, tape);
+        at = line::put_state(out, at, s, log, tape);
         let o = forward(table, n, s, log, tape, 1);
         let stop = o.stop;
         let next = o.session;
         if !is_spent(stop) {
-            print_last(&mut out, at, stop);
+            print_last(out, at, stop);
             return;
         }
         s = next;
@@ -66,8 +73,8 @@ fn print_walk(table: &[u32], n: u32, first: Session, log: &mut [u32], tape: &mut
         }
         left -= 1;
     }
-    at = line::put_state(&mut out, at, s, log, tape);
-    print_last(&mut out, at, Stop::Spent);
+    at = line::put_state(out, at, s, log, tape);
+    print_last(out, at, Stop::Spent);
 }
 
 // The last line, and everything that still waits.

@@ -1,21 +1,18 @@
--- `print_walk` is safe and ends: each pass keeps the lengths of the two lent slices and of the buffer, and leaves a step less.
+-- `print_walk` is safe and ends: each pass keeps the lengths of the three lent slices, and leaves a step less.
 use mathlib.Core.Path.{_≡_}
-use borrow.Author.Needs.{needs}
 use lib.ListN.{length}
+use borrow.Author.Needs.{needs}
 use Rattle.winder.proofs.print_walk.Statement.{statement}
 use Rattle.winder.proofs.print_walk.Tie as tie
 
 abbrev Inv-loop : tie.InvT-loop
-Inv-loop table n log₀ tape₀ out₀ s₀ at₀ left₀ log tape out s at left = (length log ≡ length log₀) × (length tape ≡ length tape₀) × (length out ≡ 65536)
+Inv-loop table n log₀ tape₀ out₀ s₀ at₀ left₀ log tape out s at left = (length log ≡ length log₀) × (length tape ≡ length tape₀) × (length out ≡ length out₀)
 
 abbrev μ-loop : tie.MeasureT-loop
 μ-loop table n log₀ tape₀ out₀ s₀ at₀ left₀ log tape out s at left = left
 
 loop-holds : tie.Need-loop-holds Inv-loop μ-loop
 loop-holds c = search needs
-
-slice-aggregate-put-state : tie.Need-slice-aggregate-put-state Inv-loop μ-loop
-slice-aggregate-put-state c = search needs
 
 put-state-requires : tie.Need-put-state-requires Inv-loop μ-loop
 put-state-requires c κs = search needs
@@ -26,9 +23,6 @@ forward-requires c κs = search needs
 is-spent-requires : tie.Need-is-spent-requires Inv-loop μ-loop
 is-spent-requires c κs = search needs
 
-slice-aggregate-print-last : tie.Need-slice-aggregate-print-last Inv-loop μ-loop
-slice-aggregate-print-last c = search needs
-
 print-last-requires : tie.Need-print-last-requires Inv-loop μ-loop
 print-last-requires c κs = search needs
 
@@ -38,11 +32,14 @@ same-length c = search needs
 same-length-2 : tie.Need-same-length-2 Inv-loop μ-loop
 same-length-2 c = search needs
 
+same-length-3 : tie.Need-same-length-3 Inv-loop μ-loop
+same-length-3 c = search needs
+
 returns : tie.Need-returns Inv-loop μ-loop
 returns c = search needs
 
-array-share-prefix-out : tie.Need-array-share-prefix-out Inv-loop μ-loop
-array-share-prefix-out c = search needs
+slice-reshare-prefix-write-all : tie.Need-slice-reshare-prefix-write-all Inv-loop μ-loop
+slice-reshare-prefix-write-all c = search needs
 
 slice-aggregate-write-all : tie.Need-slice-aggregate-write-all Inv-loop μ-loop
 slice-aggregate-write-all c = search needs
@@ -50,11 +47,14 @@ slice-aggregate-write-all c = search needs
 write-all-requires : tie.Need-write-all-requires Inv-loop μ-loop
 write-all-requires c κs = search needs
 
-same-length-3 : tie.Need-same-length-3 Inv-loop μ-loop
-same-length-3 c = search needs
-
 same-length-4 : tie.Need-same-length-4 Inv-loop μ-loop
 same-length-4 c = search needs
+
+same-length-5 : tie.Need-same-length-5 Inv-loop μ-loop
+same-length-5 c = search needs
+
+same-length-6 : tie.Need-same-length-6 Inv-loop μ-loop
+same-length-6 c = search needs
 
 returns-2 : tie.Need-returns-2 Inv-loop μ-loop
 returns-2 c = search needs
@@ -68,23 +68,20 @@ loop-less c = search needs
 loop-again : tie.Need-loop-again Inv-loop μ-loop
 loop-again c = search needs
 
-slice-aggregate-put-state-2 : tie.Need-slice-aggregate-put-state-2 Inv-loop μ-loop
-slice-aggregate-put-state-2 c = search needs
-
 put-state-requires-2 : tie.Need-put-state-requires-2 Inv-loop μ-loop
 put-state-requires-2 c κs = search needs
-
-slice-aggregate-print-last-2 : tie.Need-slice-aggregate-print-last-2 Inv-loop μ-loop
-slice-aggregate-print-last-2 c = search needs
 
 print-last-requires-2 : tie.Need-print-last-requires-2 Inv-loop μ-loop
 print-last-requires-2 c κs = search needs
 
-same-length-5 : tie.Need-same-length-5 Inv-loop μ-loop
-same-length-5 c = search needs
+same-length-7 : tie.Need-same-length-7 Inv-loop μ-loop
+same-length-7 c = search needs
 
-same-length-6 : tie.Need-same-length-6 Inv-loop μ-loop
-same-length-6 c = search needs
+same-length-8 : tie.Need-same-length-8 Inv-loop μ-loop
+same-length-8 c = search needs
+
+same-length-9 : tie.Need-same-length-9 Inv-loop μ-loop
+same-length-9 c = search needs
 
 returns-3 : tie.Need-returns-3 Inv-loop μ-loop
 returns-3 c = search needs
@@ -96,28 +93,27 @@ print-walk-spec =
     Inv-loop
     μ-loop
     loop-holds
-    slice-aggregate-put-state
     put-state-requires
     forward-requires
     is-spent-requires
-    slice-aggregate-print-last
     print-last-requires
     same-length
     same-length-2
+    same-length-3
     returns
-    array-share-prefix-out
+    slice-reshare-prefix-write-all
     slice-aggregate-write-all
     write-all-requires
-    same-length-3
     same-length-4
+    same-length-5
+    same-length-6
     returns-2
     sub-left
     loop-less
     loop-again
-    slice-aggregate-put-state-2
     put-state-requires-2
-    slice-aggregate-print-last-2
     print-last-requires-2
-    same-length-5
-    same-length-6
+    same-length-7
+    same-length-8
+    same-length-9
     returns-3)

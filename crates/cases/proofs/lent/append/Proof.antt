@@ -7,19 +7,22 @@ use Rattle.cases.proofs.lent.append.Statement.{statement}
 use Rattle.cases.proofs.lent.append.Tie as tie
 
 abbrev Inv-loop : tie.InvT-loop
-Inv-loop text₀ at bytes end₀ i₀ text end i = length text ≡ length text₀
+Inv-loop text₀ at bytes start k i₀ text i = length text ≡ length text₀
 
 abbrev μ-loop : tie.MeasureT-loop
-μ-loop text₀ at bytes end₀ i₀ text end i = length bytes - i
+μ-loop text₀ at bytes start k i₀ text i = k - i
+
+least-requires : tie.Need-least-requires Inv-loop μ-loop
+least-requires c κs = search needs
+
+sub-least : tie.Need-sub-least Inv-loop μ-loop
+sub-least c = search needs
+
+least-requires-2 : tie.Need-least-requires-2 Inv-loop μ-loop
+least-requires-2 c κs = search needs
 
 loop-holds : tie.Need-loop-holds Inv-loop μ-loop
 loop-holds c = search needs
-
-same-length : tie.Need-same-length Inv-loop μ-loop
-same-length c = search needs
-
-returns : tie.Need-returns Inv-loop μ-loop
-returns c = search needs
 
 shared-slice-read-meant-byte : tie.Need-shared-slice-read-meant-byte Inv-loop μ-loop
 shared-slice-read-meant-byte c = search needs
@@ -27,11 +30,11 @@ shared-slice-read-meant-byte c = search needs
 meant-byte-requires : tie.Need-meant-byte-requires Inv-loop μ-loop
 meant-byte-requires c κs = search needs
 
+add-text : tie.Need-add-text Inv-loop μ-loop
+add-text c = search needs
+
 slice-write-text : tie.Need-slice-write-text Inv-loop μ-loop
 slice-write-text c = search needs
-
-add-end : tie.Need-add-end Inv-loop μ-loop
-add-end c = search needs
 
 add-i : tie.Need-add-i Inv-loop μ-loop
 add-i c = search needs
@@ -42,11 +45,14 @@ loop-less c = search needs
 loop-again : tie.Need-loop-again Inv-loop μ-loop
 loop-again c = search needs
 
-same-length-2 : tie.Need-same-length-2 Inv-loop μ-loop
-same-length-2 c = search needs
+add-result : tie.Need-add-result Inv-loop μ-loop
+add-result c = search needs
 
-returns-2 : tie.Need-returns-2 Inv-loop μ-loop
-returns-2 c = search needs
+same-length : tie.Need-same-length Inv-loop μ-loop
+same-length c = search needs
+
+returns : tie.Need-returns Inv-loop μ-loop
+returns c = search needs
 
 pub append-spec : {M : Type 1} → statement M
 append-spec =
@@ -54,15 +60,17 @@ append-spec =
     (tie.spec
     Inv-loop
     μ-loop
+    least-requires
+    sub-least
+    least-requires-2
     loop-holds
-    same-length
-    returns
     shared-slice-read-meant-byte
     meant-byte-requires
+    add-text
     slice-write-text
-    add-end
     add-i
     loop-less
     loop-again
-    same-length-2
-    returns-2)
+    add-result
+    same-length
+    returns)

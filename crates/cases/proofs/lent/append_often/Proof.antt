@@ -1,15 +1,16 @@
 -- Each pass keeps the length of the text, and leaves a time less.
 use mathlib.Core.Path.{_≡_}
+use Prim.Native.Nat.{_-_}
 use lib.ListN.{length}
 use borrow.Author.Needs.{needs}
 use Rattle.cases.proofs.lent.append_often.Statement.{statement}
 use Rattle.cases.proofs.lent.append_often.Tie as tie
 
 abbrev Inv-loop : tie.InvT-loop
-Inv-loop text₀ at bytes times end₀ left₀ text end left = length text ≡ length text₀
+Inv-loop text₀ at bytes times end₀ i₀ text end i = length text ≡ length text₀
 
 abbrev μ-loop : tie.MeasureT-loop
-μ-loop text₀ at bytes times end₀ left₀ text end left = left
+μ-loop text₀ at bytes times end₀ i₀ text end i = times - i
 
 loop-holds : tie.Need-loop-holds Inv-loop μ-loop
 loop-holds c = search needs
@@ -17,8 +18,8 @@ loop-holds c = search needs
 append-requires : tie.Need-append-requires Inv-loop μ-loop
 append-requires c κs = search needs
 
-sub-left : tie.Need-sub-left Inv-loop μ-loop
-sub-left c = search needs
+add-i : tie.Need-add-i Inv-loop μ-loop
+add-i c = search needs
 
 loop-less : tie.Need-loop-less Inv-loop μ-loop
 loop-less c = search needs
@@ -40,7 +41,7 @@ append-often-spec =
     μ-loop
     loop-holds
     append-requires
-    sub-left
+    add-i
     loop-less
     loop-again
     same-length

@@ -6,12 +6,25 @@ use Rattle.cases.proofs.moves.made.Statement.{statement}
 use Rattle.cases.proofs.moves.made.Tie as tie
 
 abbrev Inv-loop : tie.InvT-loop
-Inv-loop line row desk table log₀ tape₀ which count walks compared n left₀ steps₀ o₀ agreed₀ log tape left steps o agreed =
-    (length log ≡ length log₀) × (length tape ≡ length tape₀)
+Inv-loop line row desk table log₀ tape₀ which count walks compared n left₀ steps₀ o₀ agreed₀ log tape left steps o agreed = (length log ≡ length log₀) × (length tape ≡ length tape₀)
 
 abbrev μ-loop : tie.MeasureT-loop
-μ-loop line row desk table log₀ tape₀ which count walks compared n left₀ steps₀ o₀ agreed₀ log tape left steps o agreed =
-    left
+μ-loop line row desk table log₀ tape₀ which count walks compared n left₀ steps₀ o₀ agreed₀ log tape left steps o agreed = left
+
+is-top-requires : tie.Need-is-top-requires Inv-loop μ-loop
+is-top-requires c κs = search needs
+
+top-made-requires : tie.Need-top-made-requires Inv-loop μ-loop
+top-made-requires c κs = search needs
+
+same-length : tie.Need-same-length Inv-loop μ-loop
+same-length c = search needs
+
+same-length-2 : tie.Need-same-length-2 Inv-loop μ-loop
+same-length-2 c = search needs
+
+returns : tie.Need-returns Inv-loop μ-loop
+returns c = search needs
 
 call-of-requires : tie.Need-call-of-requires Inv-loop μ-loop
 call-of-requires c κs = search needs
@@ -61,14 +74,14 @@ show-made-requires c κs = search needs
 with-session-requires : tie.Need-with-session-requires Inv-loop μ-loop
 with-session-requires c κs = search needs
 
-same-length : tie.Need-same-length Inv-loop μ-loop
-same-length c = search needs
+same-length-3 : tie.Need-same-length-3 Inv-loop μ-loop
+same-length-3 c = search needs
 
-same-length-2 : tie.Need-same-length-2 Inv-loop μ-loop
-same-length-2 c = search needs
+same-length-4 : tie.Need-same-length-4 Inv-loop μ-loop
+same-length-4 c = search needs
 
-returns : tie.Need-returns Inv-loop μ-loop
-returns c = search needs
+returns-2 : tie.Need-returns-2 Inv-loop μ-loop
+returns-2 c = search needs
 
 pub made-spec : {M : Type 1} → statement M
 made-spec =
@@ -76,6 +89,11 @@ made-spec =
     (tie.spec
     Inv-loop
     μ-loop
+    is-top-requires
+    top-made-requires
+    same-length
+    same-length-2
+    returns
     call-of-requires
     count-of-requires
     is-walk-requires
@@ -92,6 +110,6 @@ made-spec =
     loop-again
     show-made-requires
     with-session-requires
-    same-length
-    same-length-2
-    returns)
+    same-length-3
+    same-length-4
+    returns-2)

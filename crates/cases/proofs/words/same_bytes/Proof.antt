@@ -1,15 +1,14 @@
 -- Each pass leaves a byte less.
 use Prim.Native.Nat.{_-_}
-use lib.ListN.{length}
 use borrow.Author.Needs.{needs}
 use Rattle.cases.proofs.words.same_bytes.Statement.{statement}
 use Rattle.cases.proofs.words.same_bytes.Tie as tie
 
 abbrev Inv-loop : tie.InvT-loop
-Inv-loop a b i₀ i = Unit
+Inv-loop a b k i₀ i = Unit
 
 abbrev μ-loop : tie.MeasureT-loop
-μ-loop a b i₀ i = length a - i
+μ-loop a b k i₀ i = k - i
 
 returns : tie.Need-returns Inv-loop μ-loop
 returns c = search needs

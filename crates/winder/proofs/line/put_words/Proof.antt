@@ -1,5 +1,5 @@
 -- `put_words` is safe and ends: each pass keeps the buffer's length and leaves a word less.
-use mathlib.Core.Path.{_≡_, refl}
+use mathlib.Core.Path.{_≡_}
 use native.Mathlib.Omega.{arith}
 use borrow.Author.Needs.{needs}
 use lib.ListN.{length}
@@ -13,7 +13,7 @@ abbrev μ-loop : tie.MeasureT-loop
 μ-loop out₀ at words len end₀ i₀ out end i = i
 
 loop-holds : tie.Need-loop-holds Inv-loop μ-loop
-loop-holds c = refl
+loop-holds c = search needs
 
 sub-i : tie.Need-sub-i Inv-loop μ-loop
 sub-i c = omega arith
