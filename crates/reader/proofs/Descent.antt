@@ -44,7 +44,7 @@ module _ (w : Cursor) where
       → CodeAnswer phraseFrom phraseCode w r scope′ out′
   term-abstraction p (Read q m) scope′ out′ l a = record {
     value = a .value;
-    is = phrase-from _ ∙ rw (l .is) (a .is);
+    is = phrase-from (tokensFrom (w .text) (w .at)) ∙ rw (l .is) (a .is);
     on = omega arith;
     within = a .within;
     room = omega arith;
@@ -52,13 +52,13 @@ module _ (w : Cursor) where
     wrote = a .wrote;
     kept = a .kept;
   }
-  term-abstraction p Not scope′ out′ l a = phrase-from _ ∙ rw (l .is) a
+  term-abstraction p Not scope′ out′ l a = phrase-from (tokensFrom (w .text) (w .at)) ∙ rw (l .is) a
 
   pub term-application : (r : Got) (scope′ out′ : List ℕ) → afterMark lambda (tokensFrom (w .text) (w .at)) ≡ none
       → CodeAnswer applicationFrom phraseCode w r scope′ out′ → CodeAnswer phraseFrom phraseCode w r scope′ out′
   term-application (Read q m) scope′ out′ n a = record {
     value = a .value;
-    is = phrase-from _ ∙ rw n (a .is);
+    is = phrase-from (tokensFrom (w .text) (w .at)) ∙ rw n (a .is);
     on = a .on;
     within = a .within;
     room = a .room;
@@ -66,7 +66,7 @@ module _ (w : Cursor) where
     wrote = a .wrote;
     kept = a .kept;
   }
-  term-application Not scope′ out′ n a = phrase-from _ ∙ rw n a
+  term-application Not scope′ out′ n a = phrase-from (tokensFrom (w .text) (w .at)) ∙ rw n a
 
   -- An abstraction.
   pub abstraction-body : (x p q : ℕ) (r : Got) (scope′ out′ : List ℕ) → NameTo (w .text) (w .at) x p → MarkTo dot (w .text) p q

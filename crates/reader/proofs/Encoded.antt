@@ -37,18 +37,18 @@ something-left s h =
     ∙ first-left (drop (gapRun s) s) (omega (arith, length-drop (gapRun s) s)) (first-token (drop (gapRun s) s) (no-gap s))
 
 pub text-not : (text : List ℕ) → phraseFrom (tokens text) ≡ none → parse (tokens text) ≡ none
-unfolding parse phraseFrom
+unfolding parse
 text-not text e = rw e
 
 -- What was read from the text's start on: the whole text spells it if nothing is left, and no term else.
 module _ (text scope code scope′ code′ : List ℕ) (p n end : ℕ)
     (r : ReadTo phraseFrom phraseCode (cursor text 0 scope 0 code 0) p n 1 scope′ code′) (e : end ≡ p + gapRun (drop p text)) where
   pub text-left : end < length text → parse (tokens text) ≡ none
-  unfolding parse phraseFrom
+  unfolding parse
   text-left h = rw (r .is) (rw (something-left (drop p text) (omega (arith, length-drop p text))) refl)
 
   text-is : length text ≤ end → parse (tokens text) ≡ some (r .value)
-  unfolding parse phraseFrom
+  unfolding parse
   text-is h = rw (r .is) (rw (nothing-left (drop p text) (omega (arith, length-drop p text))) refl)
 
   abbrev codeWords : List ℕ

@@ -24,7 +24,6 @@ moreFrom ts = atomFrom ts >>= λ b. atomsFrom (b .left) >>= λ bs. some (parsed 
 
 -- deep enough is as deep as they need
 phrase-deep : (f : ℕ) (ts : List Token) → 3 * length ts + 3 ≤ f → phraseAt f ts ≡ phraseFrom ts
-unfolding phraseFrom
 phrase-deep f ts h = phrase-steady f (3 * length ts + 3) ts h (le-refl _)
 
 atoms-deep : (f : ℕ) (ts : List Token) → 3 * length ts + 2 ≤ f → atomsAt f ts ≡ atomsFrom ts
@@ -51,7 +50,6 @@ phrase-next f ts h =
     λ a ea. bind-ap (atomsAt f (a .left)) (atomsFrom (a .left)) _ (atoms-deep f (a .left) (omega (arith, atom-shorter ts a ea))))
 
 pub phrase-from : (ts : List Token) → phraseFrom ts ≡ ifSome (afterMark lambda ts) abstractionFrom (λ _. applicationFrom ts)
-unfolding phraseFrom
 phrase-from ts =
     let e : 3 * length ts + 3 ≡ suc (3 * length ts + 2) = omega arith in
     ap (λ (f : ℕ). phraseAt f ts) e ∙ phrase-next (3 * length ts + 2) ts (le-refl _)

@@ -12,7 +12,7 @@ use Rattle.text.specs.Bytes.{lambda, closing}
 use Rattle.text.specs.Tokens.{Token, mark}
 use Rattle.text.specs.Grammar.{Phrase, abstraction, atoms, Atoms, no-more, _and_, Atom, named, bracketed, phraseTokens, atomsTokens, atomTokens, Tree, phraseTree, Derives}
 use Rattle.text.specs.Parsed.{parsed}
-use Rattle.text.specs.Parse.{afterMark, startsAtom, phraseAt, atomsAt, atomAt, phraseFrom, parse}
+use Rattle.text.specs.Parse.{afterMark, startsAtom, phraseAt, atomsAt, atomAt, parse}
 use Rattle.text.proofs.Each.{Each, each-some, each-bind, whole-spells}
 use Rattle.text.proofs.Spelt.{Spelt, phrase-spelt, atom-some}
 
@@ -58,13 +58,13 @@ mutual
 
 -- what `parse` finds is spelt by all the tokens
 whole-spelt : (ts : List Token) → Each (λ p. phraseTokens p ≡ ts) (parse ts)
-unfolding parse phraseFrom
+unfolding parse
 whole-spelt ts =
     each-bind (Spelt phraseTokens ts) (λ p. phraseTokens p ≡ ts) (phraseAt (3 * length ts + 3) ts) _ (phrase-spelt (3 * length ts + 3) ts)
     λ p e. whole-spells phraseTokens ts p e
 
 phrase-parsed : (p : Phrase) → parse (phraseTokens p) ≡ some p
-unfolding parse phraseFrom
+unfolding parse
 phrase-parsed p =
     let d = 3 * length (phraseTokens p) + 3 in
     let e : phraseAt d (phraseTokens p) ≡ some (parsed p []) =

@@ -54,7 +54,7 @@ unfoldable mutual
 
 -- A term that the tokens begin with. It is deep enough by 3 for each token and a rank more, 3 for a term, 2 for atoms and 1 for an atom: a call that takes no
 -- token goes to a lower rank.
-unfoldable pub phraseFrom : List Token → Option (Parsed Phrase Token)
+abbrev pub phraseFrom : List Token → Option (Parsed Phrase Token)
 phraseFrom ts = phraseAt (3 * length ts + 3) ts
 
 -- All the tokens as one term.
