@@ -46,7 +46,7 @@ module _ (call : Given → Outcome) (w : List ℕ) (n : ℕ) (s : HostSession) (
     direction-nine short-log short-tape =
         rw (lent-unrefused w n ls ts (accepts-all w n table) short-log short-tape) at direction-refused
 
--- A chosen direction above 1, whatever the node: 12 where none of 7 to 9 applies, and else that one (`move-refused`, `calls` proofs/Answers.antt).
+-- A chosen direction above 1, whatever the node: 12 where none of 7 to 9 applies, and else that one (`move-refused`, proofs/Answers.antt of `calls`).
 module _ (g : Given) (i k : ℕ) (h : 1 < k) (e : callNumber g ≡ none) where
   pub no-spot : visitNumber (spotIn i k .node) g ≡ some 12
   no-spot = visit-twelve (spotIn i k .node) g e (rw (no-direction k h))

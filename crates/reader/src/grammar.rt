@@ -24,7 +24,8 @@ pub(crate) fn term(
     node: usize,
 ) -> Got
     requires { ⌜ CodeRoom (cursor (now text) at (now scope) depth (now out) node) ⌝ }
-    ensures { λ r. ⌜ TermRead (now (text .entry)) at (now (scope .entry)) depth (now (out .entry)) node r (now (scope .exit)) (now (out .exit)) ⌝ }
+    ensures { λ r. ⌜ TermRead (now (text .entry)) at (now (scope .entry)) depth (now (out .entry)) node r
+        (now (scope .exit)) (now (out .exit)) ⌝ }
 {
     let first = after_mark(text, at, b'\\');
     match first {
@@ -43,7 +44,8 @@ fn abstraction(
     node: usize,
 ) -> Got
     requires { ⌜ CodeRoom (cursor (now text) at (now scope) depth (now out) node) ⌝ }
-    ensures { λ r. ⌜ AbstractionRead (now (text .entry)) at (now (scope .entry)) depth (now (out .entry)) node r (now (scope .exit)) (now (out .exit)) ⌝ }
+    ensures { λ r. ⌜ AbstractionRead (now (text .entry)) at (now (scope .entry)) depth (now (out .entry)) node r
+        (now (scope .exit)) (now (out .exit)) ⌝ }
 {
     let first = name_first(text, at);
     match first {
@@ -73,7 +75,8 @@ fn application(
     node: usize,
 ) -> Got
     requires { ⌜ CodeRoom (cursor (now text) at (now scope) depth (now out) node) ⌝ }
-    ensures { λ r. ⌜ ApplicationRead (now (text .entry)) at (now (scope .entry)) depth (now (out .entry)) node r (now (scope .exit)) (now (out .exit)) ⌝ }
+    ensures { λ r. ⌜ ApplicationRead (now (text .entry)) at (now (scope .entry)) depth (now (out .entry)) node r
+        (now (scope .exit)) (now (out .exit)) ⌝ }
 {
     let mut p = at;
     let mut m = node;
@@ -107,7 +110,8 @@ fn atom(
     node: usize,
 ) -> Got
     requires { ⌜ CodeRoom (cursor (now text) at (now scope) depth (now out) node) ⌝ }
-    ensures { λ r. ⌜ AtomRead (now (text .entry)) at (now (scope .entry)) depth (now (out .entry)) node r (now (scope .exit)) (now (out .exit)) ⌝ }
+    ensures { λ r. ⌜ AtomRead (now (text .entry)) at (now (scope .entry)) depth (now (out .entry)) node r
+        (now (scope .exit)) (now (out .exit)) ⌝ }
 {
     let first = name_first(text, at);
     match first {
@@ -136,7 +140,8 @@ fn brackets(
     node: usize,
 ) -> Got
     requires { ⌜ CodeRoom (cursor (now text) at (now scope) depth (now out) node) ⌝ }
-    ensures { λ r. ⌜ BracketsRead (now (text .entry)) at (now (scope .entry)) depth (now (out .entry)) node r (now (scope .exit)) (now (out .exit)) ⌝ }
+    ensures { λ r. ⌜ BracketsRead (now (text .entry)) at (now (scope .entry)) depth (now (out .entry)) node r
+        (now (scope .exit)) (now (out .exit)) ⌝ }
 {
     let inner = term(text, at, scope, depth, out, node);
     match inner {

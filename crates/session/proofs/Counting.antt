@@ -6,7 +6,7 @@ use mathlib.Core.List.{List, [], _∷_}
 use Prim.Native.Nat.{ℕ, zero, suc, _+_, _-_, _≤_, _<_}
 use native.Mathlib.Nat.{sub-zero, suc-sub-suc, le-of-suc-le-suc, not-suc-le-zero}
 use native.Mathlib.Numerals.{add-one}
-use lib.ListN.{length, take, drop, drop as under}
+use lib.ListN.{length, take, drop}
 use lib.Dec.{eqb, eqb·suc-zero}
 use borrow.Author.Tests.{le-leb, lt-leb}
 use Rattle.term.specs.Choice.{_>>=_, isNone, choose, ifSome}
@@ -30,7 +30,7 @@ counted-on count (some a) f g h = h a
 abbrev heldMany : Tape → ℕ
 heldMany t = howMany (heldOn t)
 
-held-under : (a : ℕ) (t : Tape) → a ≤ heldMany t → heldMany (under a t) ≡ heldMany t - a
+held-under : (a : ℕ) (t : Tape) → a ≤ heldMany t → heldMany (drop a t) ≡ heldMany t - a
 held-under zero t h = sym (sub-zero (heldMany t))
 held-under (suc a) [] h = absurd (not-suc-le-zero h)
 held-under (suc a) (bullet ∷ t) h = absurd (not-suc-le-zero h)
@@ -61,7 +61,7 @@ module _ (T : Table) where
     where
       by-test : (b : Bool) → (b ≡ true → arity T (suc v) ≤ heldMany t)
           → cond b (some (heldMany t - arity T (suc v) + 1)) none
-          ≡ Option·map (λ u. heldMany u) (cond b (some (held (entry (suc v) (topmost (arity T (suc v)) (heldOn t))) ∷ under (arity T (suc v)) t)) none)
+          ≡ Option·map (λ u. heldMany u) (cond b (some (held (entry (suc v) (topmost (arity T (suc v)) (heldOn t))) ∷ drop (arity T (suc v)) t)) none)
       by-test true h = ap some (add-one (heldMany t - arity T (suc v)) ∙ ap suc (sym (held-under (arity T (suc v)) t (h refl))))
       by-test false h = refl
 

@@ -1,7 +1,7 @@
 -- What the functions that weigh a state require and promise: over its session, and the count of its bullets.
-use Prim.Native.Nat.{ℕ, _+_, _-_, _*_, _≤_}
+use Prim.Native.Nat.{ℕ, _+_, _-_, _≤_}
 use Rattle.calls.specs.Digits.{digits}
-use Rattle.calls.specs.Weight.{heaviest}
+use Rattle.calls.specs.Weight.{weightBy, heaviest}
 use Rattle.calls.specs.Calls.{longest}
 use Rattle.session.specs.declared.Session as Declared
 use Rattle.session.specs.declared.choice.Rule.{Rule}
@@ -13,7 +13,7 @@ wordsOf se = se .«log_len» + se .«tape_len»
 
 -- so many of them bullets, and the others positions
 abbrev pub weightOf : ℕ → Declared.Session → ℕ → ℕ
-weightOf n se b = b + digits n * (wordsOf se - b)
+weightOf n se b = weightBy (digits n) (wordsOf se) b
 
 pub record Weighable (n : ℕ) (se : Declared.Session) (b : ℕ) : Type 0 where
   pub few-words : wordsOf se ≤ longest + longest

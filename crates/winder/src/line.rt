@@ -83,11 +83,13 @@ pub(crate) fn put_stop(out: &mut [u8], at: usize, x: Stop) -> usize
         Stop::Spent => put_named(out, at, b"spent"),
         Stop::Answer(i) => put_numbered(out, at, b"answer ", i),
         Stop::Jam => put_named(out, at, b"jam"),
+        Stop::Far => put_named(out, at, b"far"),
+        Stop::Start => put_named(out, at, b"start"),
         Stop::LogFull => put_named(out, at, b"log full"),
         Stop::TapeFull => put_named(out, at, b"tape full"),
         Stop::Refused(k) => put_numbered(out, at, b"refused ", k),
-        // Far is past the steps that the program makes, and the others are of calls that it does not make.
-        _ => put_named(out, at, b"other"),
+        Stop::Found => put_named(out, at, b"found"),
+        Stop::None => put_named(out, at, b"none"),
     }
 }
 
