@@ -11,7 +11,7 @@ use Rattle.machine.specs.Good.{Good}
 use Rattle.calls.specs.Session.{refused, Outcome, Given}
 use Rattle.calls.specs.Stops.{Moment, moment, Room, room}
 use Rattle.calls.specs.Calls.{longest, callTests, callNumber, Enters, refusedOutcome, wound}
-use Rattle.calls.specs.Moves.{Move, outcomeOf, ownTests, ownNumber}
+use Rattle.calls.specs.Moves.{Move, outcomeOf, ownTests, ownNumber, wayOf}
 use Rattle.calls.specs.Demand.{givenTo, RefusedCall}
 use Rattle.calls.proofs.Order.{first-of-both}
 use Rattle.calls.proofs.Stops.{Fits}
@@ -27,7 +27,7 @@ as-given k g = record { session-is = refl; log-is = refl; tape-is = refl; no-ste
 -- No walk ends in a refusal.
 pub run-unrefused : (m : Move) (T : Table) (r : Room) (x : Moment) → Unrefused (runOf m T r x .stop)
 run-unrefused m T r x =
-    laws m .walks T r (λ run. Unrefused (run .stop)) x (record { walk = λ way c. wind-unrefused way T r c x; found = λ way c. found-unrefused; none = none-unrefused })
+    laws m .walks T r (λ run. Unrefused (run .stop)) x (record { walk = λ c. wind-unrefused (wayOf m (x .position)) T r c x; found = λ c. found-unrefused; none = none-unrefused })
 
 module _ (m : Move) (g : Given) where
   -- Its number is that of 7 to 9, and else its own.
@@ -65,7 +65,7 @@ module _ (m : Move) (g : Given) where
         by-call none e = by-own e (ownNumber m (g .n) (g .session .position)) refl
 
   pub each-outcome : (P : Outcome → Type 0) → ((k : ℕ) → P (refusedOutcome k g))
-      → ((s : State) → Enters g s → OfWalks (tableIn (g .table) (g .n)) (room (g .log) (g .tape)) (λ run. P (wound (room (g .log) (g .tape)) run)) (moment s (g .session .position)))
+      → ((s : State) → Enters g s → OfWalks (wayOf m (g .session .position)) (tableIn (g .table) (g .n)) (room (g .log) (g .tape)) (λ run. P (wound (room (g .log) (g .tape)) run)) (moment s (g .session .position)))
       → P (outcomeOf m g)
   each-outcome P refuses walks =
       each-answer P refuses

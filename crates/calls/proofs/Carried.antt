@@ -10,7 +10,7 @@ use Rattle.calls.specs.Session.{Given}
 use Rattle.calls.specs.Stops.{Way, forward, back, Moment, moment, Room, room, logSize, nextBy}
 use Rattle.calls.specs.Winding.{carriedBy, wind}
 use Rattle.calls.specs.Calls.{longest, Enters}
-use Rattle.calls.specs.Moves.{Move, outcomeOf}
+use Rattle.calls.specs.Moves.{Move, outcomeOf, wayOf}
 use Rattle.calls.proofs.Stops.{Fits, fits-next}
 use Rattle.calls.proofs.Winds.{next-is, each-run}
 use Rattle.calls.proofs.Entering.{enters-fits}
@@ -42,7 +42,7 @@ run-carries-few way T r short =
 -- and a call at most that for each of its steps:
 pub carries-few : (m : Move) (g : Given) → outcomeOf m g .carried ≤ longest * outcomeOf m g .steps
 carries-few m g =
-    each-outcome m g (λ o. o .carried ≤ longest * o .steps) (λ k. zero-le) (λ s h. record { walk = from-here s h; found = from-here s h; none = zero-le })
+    each-outcome m g (λ o. o .carried ≤ longest * o .steps) (λ k. zero-le) (λ s h. record { walk = from-here s h (wayOf m (g .session .position)); found = from-here s h (wayOf m (g .session .position)); none = zero-le })
   where
     from-here : (s : State) → Enters g s → (way : Way) (c : ℕ)
         → (let run = wind way (tableIn (g .table) (g .n)) (room (g .log) (g .tape)) c (moment s (g .session .position)) in run .carried ≤ longest * run .steps)

@@ -1,12 +1,11 @@
 -- The kinds of call that go by a number of steps: forward and back by a count, and go-to.
 use mathlib.Core.Path.{_≡_, refl, ap, _∙_, subst}
-use mathlib.Core.Bool.{Bool, true, false}
+use mathlib.Core.Bool.{Bool, true, false, cond}
 use mathlib.Core.Option.{Option, none, some}
-use Prim.Native.Nat.{ℕ, _+_, _-_, _≤_, _<_, min}
+use Prim.Native.Nat.{ℕ, _+_, _-_, _≤_, min}
 use native.Mathlib.Nat.{zero-add}
 use native.Mathlib.Omega.{arith}
 use lib.Dec.{leb}
-use borrow.Author.Tests.{leb-true}
 use Rattle.term.specs.Choice.{choose}
 use Rattle.term.specs.Table.{Table}
 use Rattle.machine.specs.Machine.{State, afterFrom}
@@ -17,10 +16,17 @@ use Rattle.calls.specs.Stops.{Way, forward, back, Moment, moment, Room, 
 use Rattle.calls.specs.Winding.{Run, wind}
 use Rattle.calls.specs.Calls.{stateGiven, callNumber, wound, outcomeBy, windOf, goToOf}
 use Rattle.calls.specs.Allowed.{allowed}
-use Rattle.calls.specs.Moves.{by, go-to, Course, course}
+use Rattle.calls.specs.Moves.{by, go-to, wayOf, Course, course}
 use Rattle.calls.proofs.Runs.{Trail, trail-after, On, forward-on, forward-counted, Off, back-off}
 use Rattle.calls.proofs.Visits.{reaches}
-use Rattle.calls.proofs.MoveLaws.{moveNumber, shaped, Stood, Arrives, Takes, MoveLaws}
+use Rattle.calls.proofs.MoveLaws.{moveNumber, shaped, OfWalks, Stood, Arrives, Takes, MoveLaws}
+
+abbrev IsForward : Way → Type 0
+IsForward forward = Unit
+IsForward back = ⊥
+
+pub forward-not-back : forward ≡ back → ⊥
+forward-not-back e = subst IsForward e tt
 
 module _ (T : Table) (r : Room) (s₀ : State) (p : ℕ) (s : State) (h : Stood T r s₀ p s) where
   abbrev now : Moment
@@ -62,20 +68,20 @@ module _ (T : Table) (r : Room) (s₀ : State) (p : ℕ) (s : State) (h : Stood 
   pub back-state : (j : ℕ) → j ≤ p → afterFrom T s₀ (p - j) ≡ some (wind back T r j now .last .state)
   back-state j l = let e : min j p ≡ j = omega arith in trail-after T r s₀ (subst (λ i. Trail T r s₀ (p - i) (wind back T r j now .last .state)) e (off j .trail))
 
-  count-takes : (way : Way) (c : ℕ) → Takes T r s₀ p (course T s₀ r (by way c) p) (wind way T r c now)
-  count-takes forward c = record { arrives = forward-arrives c; unhindered = λ x. absurd x; stop-says = tt }
+  count-takes : (way : Way) (c : ℕ) → Takes T r s₀ way p (course T s₀ r (by way c) p) (wind way T r c now)
+  count-takes forward c = record { arrives = forward-arrives c; unhindered = λ x. absurd (forward-not-back x); stop-says = tt }
   count-takes back c = record { arrives = back-arrives c; unhindered = λ x. off c .unhindered; stop-says = tt }
 
   -- one way or the other, as the course of go-to has it
   abbrev sideways : ℕ → Bool → Course
-  sideways q d = record { to = choose d (λ _. p + allowed T s₀ r (q - p) p) (λ _. p - min (p - q) p); goesBack = q < p; says = λ x. Unit }
+  sideways q d = record { to = choose d (λ _. p + allowed T s₀ r (q - p) p) (λ _. p - min (p - q) p); says = λ x. Unit }
 
-  go-to-takes : (q : ℕ) → Takes T r s₀ p (course T s₀ r (go-to q) p) (choose (leb p q) (λ _. wind forward T r (q - p) now) (λ _. wind back T r (p - q) now))
-  go-to-takes q = by-side (leb p q) refl
+  go-to-takes : (q : ℕ) → Takes T r s₀ (wayOf (go-to q) p) p (course T s₀ r (go-to q) p) (choose (leb p q) (λ _. wind forward T r (q - p) now) (λ _. wind back T r (p - q) now))
+  go-to-takes q = by-side (leb p q)
     where
-      by-side : (d : Bool) → leb p q ≡ d → Takes T r s₀ p (sideways q d) (choose d (λ _. wind forward T r (q - p) now) (λ _. wind back T r (p - q) now))
-      by-side true e = record { arrives = forward-arrives (q - p); unhindered = λ x. (let l : p ≤ q = leb-true p q e in absurd (omega arith)); stop-says = tt }
-      by-side false e = record { arrives = back-arrives (p - q); unhindered = λ x. off (p - q) .unhindered; stop-says = tt }
+      by-side : (d : Bool) → Takes T r s₀ (cond d forward back) p (sideways q d) (choose d (λ _. wind forward T r (q - p) now) (λ _. wind back T r (p - q) now))
+      by-side true = record { arrives = forward-arrives (q - p); unhindered = λ x. absurd (forward-not-back x); stop-says = tt }
+      by-side false = record { arrives = back-arrives (p - q); unhindered = λ x. off (p - q) .unhindered; stop-says = tt }
 
 -- They put no tests of their own.
 count-shape : (way : Way) (c : ℕ) (g : Given) → windOf way g c ≡ shaped (by way c) g
@@ -97,21 +103,21 @@ go-to-shape q g = by-side (leb (g .session .position) q) refl
     by-side true e = rw e (count-shape forward (q - g .session .position) g ∙ same-walks (moveNumber (go-to q) g) (stateGiven g) g _ _ (λ s. rw e))
     by-side false e = rw e (count-shape back (g .session .position - q) g ∙ same-walks (moveNumber (go-to q) g) (stateGiven g) g _ _ (λ s. rw e))
 
--- what holds of forward and of back by a count holds of go-to
-either-way : (P : Run → Type 0) (b : Bool) (x y : Unit {0} → Run) → ((i : Unit {0}) → P (x i)) → ((i : Unit {0}) → P (y i)) → P (choose b x y)
-either-way P true x y f h = f tt
-either-way P false x y f h = h tt
+-- what holds of the walks one way holds of go-to that way
+go-to-walks : (T : Table) (r : Room) (P : Run → Type 0) (x : Moment) (i j : ℕ) (d : Bool) → OfWalks (cond d forward back) T r P x → P (choose d (λ _. wind forward T r i x) (λ _. wind back T r j x))
+go-to-walks T r P x i j true w = w .walk i
+go-to-walks T r P x i j false w = w .walk j
 
 pub count-laws : (way : Way) (c : ℕ) → MoveLaws (by way c)
 count-laws way c = record {
   shape = count-shape way c;
-  walks = λ T r P x w. w .walk way c;
+  walks = λ T r P x w. w .walk c;
   takes = λ T r s₀ p s h. count-takes T r s₀ p s h way c;
 }
 
 pub go-to-laws : (q : ℕ) → MoveLaws (go-to q)
 go-to-laws q = record {
   shape = go-to-shape q;
-  walks = λ T r P x w. either-way P (leb (x .position) q) _ _ (λ i. w .walk forward _) (λ i. w .walk back _);
+  walks = λ T r P x w. go-to-walks T r P x (q - x .position) (x .position - q) (leb (x .position) q) w;
   takes = λ T r s₀ p s h. go-to-takes T r s₀ p s h q;
 }

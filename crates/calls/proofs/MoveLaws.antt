@@ -15,7 +15,7 @@ use Rattle.calls.specs.Stops.{Way, forward, back, Moment, moment, Room, 
 use Rattle.calls.specs.Winding.{Run, ended, wind}
 use Rattle.calls.specs.Calls.{stateGiven, callTests, outcomeBy}
 use Rattle.calls.specs.Visits.{seek, seekBack, foundBy}
-use Rattle.calls.specs.Moves.{Move, by, go-to, back-to, forward-to, outcomeOf, ownTests, Course, course}
+use Rattle.calls.specs.Moves.{Move, by, go-to, back-to, forward-to, outcomeOf, ownTests, wayOf, Course, course}
 use Rattle.calls.proofs.Stops.{Fits}
 use Rattle.calls.proofs.Runs.{Unhindered, Trail}
 
@@ -33,10 +33,10 @@ moveNumber m g = first (callTests g ++ ownTests m (g .n) (g .session .position))
 abbrev pub shaped : Move → Given → Outcome
 shaped m g = outcomeBy (moveNumber m g) (stateGiven g) g (λ x. runOf m (tableIn (g .table) (g .n)) (room (g .log) (g .tape)) x)
 
--- P holds of every walk by a count from a moment, of the same walk as found, and of none.
-pub record OfWalks (T : Table) (r : Room) (P : Run → Type 0) (m : Moment) : Type 0 where
-  pub walk : (way : Way) (c : ℕ) → P (wind way T r c m)
-  pub found : (way : Way) (c : ℕ) → P (foundBy (wind way T r c m))
+-- P holds of every walk this way by a count from a moment, of the same walk as found, and of none.
+pub record OfWalks (way : Way) (T : Table) (r : Room) (P : Run → Type 0) (m : Moment) : Type 0 where
+  pub walk : (c : ℕ) → P (wind way T r c m)
+  pub found : (c : ℕ) → P (foundBy (wind way T r c m))
   pub none : P (ended T m Stop.none)
 
 module _ (T : Table) (r : Room) (s₀ : State) where
@@ -54,13 +54,13 @@ module _ (T : Table) (r : Room) (s₀ : State) where
     pub steps-are : run .steps ≡ (q - p) + (p - q)
     pub carried-is : run .carried ≡ carriedBetween T s₀ p q
 
-  -- A walk that takes p along a course.
-  pub record Takes (p : ℕ) (c : Course) (run : Run) : Type 0 where
+  -- A walk one way that takes p along a course.
+  pub record Takes (way : Way) (p : ℕ) (c : Course) (run : Run) : Type 0 where
     pub arrives : Arrives p (c .to) run
-    pub unhindered : c .goesBack → Unhindered (run .stop)
+    pub unhindered : way ≡ back → Unhindered (run .stop)
     pub stop-says : c .says (run .stop)
 
 pub record MoveLaws (m : Move) : Type 1 where
   pub shape : (g : Given) → outcomeOf m g ≡ shaped m g
-  pub walks : (T : Table) (r : Room) (P : Run → Type 0) (x : Moment) → OfWalks T r P x → P (runOf m T r x)
-  pub takes : (T : Table) (r : Room) (s₀ : State) (p : ℕ) (s : State) → Stood T r s₀ p s → Takes T r s₀ p (course T s₀ r m p) (runOf m T r (moment s p))
+  pub walks : (T : Table) (r : Room) (P : Run → Type 0) (x : Moment) → OfWalks (wayOf m (x .position)) T r P x → P (runOf m T r x)
+  pub takes : (T : Table) (r : Room) (s₀ : State) (p : ℕ) (s : State) → Stood T r s₀ p s → Takes T r s₀ (wayOf m p) p (course T s₀ r m p) (runOf m T r (moment s p))

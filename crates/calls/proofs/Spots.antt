@@ -21,7 +21,7 @@ use Rattle.calls.proofs.Runs.{trail-after, forward-stops}
 use Rattle.calls.proofs.Visits.{reaches, sought, sought-back, each-sought, found-not-none}
 use Rattle.calls.proofs.Visited.{stood-on, stands-on, last-found, last-none, next-found, next-none}
 use Rattle.calls.proofs.MoveLaws.{shaped, Stood, Arrives, Takes, MoveLaws}
-use Rattle.calls.proofs.Counts.{counted, forward-state, off, forward-arrives, back-arrives, back-state}
+use Rattle.calls.proofs.Counts.{forward-not-back, counted, forward-state, off, forward-arrives, back-arrives, back-state}
 
 module _ (T : Table) (r : Room) (s₀ : State) where
   -- the same walk, as found
@@ -45,7 +45,7 @@ module _ (T : Table) (r : Room) (s₀ : State) where
           (omega arith, near, stands-on T s₀ v (p + (i - p)) (forward-state T r s₀ p s h c (i - p) near) (subst (VisitedAt T s₀ v) e g))
 
       abbrev Forward : Run → Type 0
-      Forward run = Takes T r s₀ p (course T s₀ r (forward-to v c) p) run
+      Forward run = Takes T r s₀ forward p (course T s₀ r (forward-to v c) p) run
 
       forward-takes : {run : Run} → Sought forward T r v c now (wind forward T r c now) run → Forward run
       forward-takes (visited k f e) =
@@ -80,7 +80,7 @@ module _ (T : Table) (r : Room) (s₀ : State) where
           (rw (next-none T s₀ v (allowed T s₀ r c p) p unseen)
           (record {
             arrives = forward-arrives T r s₀ p s h c;
-            unhindered = λ x. absurd x;
+            unhindered = λ x. absurd (forward-not-back x);
             stop-says = record {
               found-first = λ x. absurd (subst IsStop x (wind-is-stop forward T r c now));
               else-unvisited = λ _. unseen;
@@ -103,7 +103,7 @@ module _ (T : Table) (r : Room) (s₀ : State) where
         (omega arith, omega arith, stands-on T s₀ v (p - (p - i)) (back-state T r s₀ p s h (p - i) (omega arith)) (subst (VisitedAt T s₀ v) e g))
 
     abbrev Back : Run → Type 0
-    Back run = Takes T r s₀ p (course T s₀ r (back-to v) p) run
+    Back run = Takes T r s₀ back p (course T s₀ r (back-to v) p) run
 
     back-takes : {run : Run} → Sought back T r v p now (ended T now Stop.none) run → Back run
     back-takes (visited k f e) =
@@ -168,13 +168,13 @@ back-to-shape v g = refl
 pub forward-to-laws : (v : Spot) (c : ℕ) → MoveLaws (forward-to v c)
 forward-to-laws v c = record {
   shape = forward-to-shape v c;
-  walks = λ T r P x w. each-sought P (λ k f. w .found forward k) (w .walk forward c) (sought forward T r v c x);
+  walks = λ T r P x w. each-sought P (λ k f. w .found k) (w .walk c) (sought forward T r v c x);
   takes = λ T r s₀ p s h. forward-takes T r s₀ p s h v c (sought forward T r v c (moment s p));
 }
 
 pub back-to-laws : (v : Spot) → MoveLaws (back-to v)
 back-to-laws v = record {
   shape = back-to-shape v;
-  walks = λ T r P x w. each-sought P (λ k f. w .found back k) (w .none) (sought-back T r v x);
+  walks = λ T r P x w. each-sought P (λ k f. w .found k) (w .none) (sought-back T r v x);
   takes = λ T r s₀ p s h. back-takes T r s₀ p s h v (sought-back T r v (moment s p));
 }

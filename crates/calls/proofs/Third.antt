@@ -17,7 +17,7 @@ use Rattle.calls.specs.Session.{Outcome, Given}
 use Rattle.calls.specs.Stops.{moment, Room, room}
 use Rattle.calls.specs.Winding.{Run}
 use Rattle.calls.specs.Calls.{longest, openNumber, wound, openOf}
-use Rattle.calls.specs.Moves.{Move, outcomeOf, ownNumber, course}
+use Rattle.calls.specs.Moves.{Move, outcomeOf, ownNumber, wayOf, course}
 use Rattle.calls.specs.Demand.{Call, own, other, AllPermitted, Standing, leftByOpen, leftBy, givenTo, positionBy, AsPlain, AsOwn, Demanded, ThirdDemand}
 use Rattle.calls.proofs.Unrefused.{lent-unrefused}
 use Rattle.calls.proofs.Stops.{Fits}
@@ -65,7 +65,7 @@ module _ (w : List ℕ) (n : ℕ) (s₀ : State) (r : Room) where
     pub stands : OnTrail q (leftBy x)
 
   -- A walk along the course of its call, with every end but a refusal.
-  wound-own : (m : Move) (p : ℕ) (g : Given) (run : Run) → Takes T r s₀ p (course T s₀ r m p) run → Unrefused (run .stop) → Owned none m p (course T s₀ r m p .to) g (wound r run)
+  wound-own : (m : Move) (p : ℕ) (g : Given) (run : Run) → Takes T r s₀ (wayOf m p) p (course T s₀ r m p) run → Unrefused (run .stop) → Owned none m p (course T s₀ r m p .to) g (wound r run)
   wound-own m p g run h unrefused = record {
     as-own = record {
       steps-are = h .arrives .steps-are;

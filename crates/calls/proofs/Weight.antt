@@ -16,14 +16,14 @@ use Rattle.machine.specs.Good.{EntryIn, LogIn, TapeIn}
 use Rattle.machine.proofs.Nodes.{not-zero}
 use Rattle.machine.proofs.Load.{slice-front}
 use Rattle.calls.specs.Session.{Given}
-use Rattle.calls.specs.Stops.{Way, forward, back, Moment, moment, Room, room, logSize, tapeSize}
+use Rattle.calls.specs.Stops.{Way, forward, Moment, moment, Room, room, logSize, tapeSize}
 use Rattle.calls.specs.Digits.{digits, HasDigits}
 use Rattle.calls.specs.Weight.{bullets, entryPositions, logPositions, tapePositions, loggedPositions, weight, zeroWords, bulletsGiven, weightGiven, heaviest}
 use Rattle.calls.specs.Winding.{Run, wind}
 use Rattle.calls.specs.Calls.{longest, Enters}
 use Rattle.calls.specs.Walks.{Walked, PeakOver}
 use Rattle.calls.specs.Visits.{foundBy}
-use Rattle.calls.specs.Moves.{Move, outcomeOf, ownNumber}
+use Rattle.calls.specs.Moves.{Move, outcomeOf, ownNumber, wayOf}
 use Rattle.calls.proofs.Stops.{Fits, fits-next}
 use Rattle.calls.proofs.Winds.{each-run}
 use Rattle.calls.proofs.Digits.{digits-are, digits-at-most, digits-once}
@@ -161,7 +161,7 @@ own-light g s h = rw (wind-none forward (tableIn (g .table) (g .n)) (room (g .lo
 pub peak-light : (m : Move) (g : Given) → outcomeOf m g .peak ≤ heaviest
 peak-light m g =
     each-outcome m g (λ o. o .peak ≤ heaviest) (λ k. zero-le)
-    (λ s h. record { walk = λ way c. from-here way g s h c; found = λ way c. from-here way g s h c; none = own-light g s h })
+    (λ s h. record { walk = λ c. from-here (wayOf m (g .session .position)) g s h c; found = λ c. from-here (wayOf m (g .session .position)) g s h c; none = own-light g s h })
 
 -- The same run, as found.
 found-walked : (way : Way) (T : Table) (m : Moment) (run : Run) → Walked way T m run → Walked way T m (foundBy run)
@@ -177,15 +177,15 @@ found-walked way T m run w = record {
   };
 }
 
--- So it is in each call that is not refused, one way or the other, whatever its stop; none has the present state's own.
-pub peak-greatest : (m : Move) (g : Given) (s : State) → Enters g s → ownNumber m (g .n) (g .session .position) ≡ none → (way : Way) × PeakOver g s way (outcomeOf m g)
+-- So it is in each call that is not refused, over a run the way that the call goes, whatever its stop; none has the present state's own.
+pub peak-greatest : (m : Move) (g : Given) (s : State) → Enters g s → ownNumber m (g .n) (g .session .position) ≡ none → PeakOver g s (wayOf m (g .session .position)) (outcomeOf m g)
 peak-greatest m g s h o =
     let T : Table = tableIn (g .table) (g .n) in
     let r : Room = room (g .log) (g .tape) in
     let x : Moment = moment s (g .session .position) in
-    let w = laws m .walks T r (λ run. (way : Way) × Walked way T x run) x (record {
-      walk = λ way c. (way, walked way T r c x);
-      found = λ way c. (way, found-walked way T x _ (walked way T r c x));
-      none = (back, walked-nowhere back T x _);
-    }) in
-    (w .0, (runOf m T r x, moved m g s h o, w .1))
+    let way : Way = wayOf m (g .session .position) in (
+      runOf m T r x,
+      moved m g s h o,
+      laws m .walks T r (λ run. Walked way T x run) x
+          (record { walk = λ c. walked way T r c x; found = λ c. found-walked way T x _ (walked way T r c x); none = walked-nowhere way T x _ }),
+    )

@@ -10,9 +10,9 @@ use Rattle.term.specs.Accepted.{Accepted}
 use Rattle.machine.specs.Machine.{State, startState, afterFrom}
 use Rattle.machine.specs.Carried.{carriedBetween}
 use Rattle.calls.specs.Session.{Session, jam, logFull, tapeFull, refused, Outcome, Opening, Given}
-use Rattle.calls.specs.Stops.{moment, Room, room}
+use Rattle.calls.specs.Stops.{back, moment, Room, room}
 use Rattle.calls.specs.Calls.{longest, sessionAt, logSlice, tapeSlice, openOf}
-use Rattle.calls.specs.Moves.{Move, outcomeOf, ownNumber, Course, course}
+use Rattle.calls.specs.Moves.{Move, outcomeOf, ownNumber, wayOf, course}
 
 -- A call of the list: its own gets the session and slices that stand, and brings a slice that has the opened table;
 -- another's gets whatever it is given.
@@ -78,19 +78,19 @@ module _ (T : Table) (s₀ : State) (r : Room) where
 
   -- A call of the list's own on its course from p: it answers the steps that it added to p or took off, is not refused, going back ends in no jam and no full slice, and says by its stop what
   -- its kind does. "The sum is that of the plain machine's steps" (document 02, change 6), which are those between p and the new p.
-  pub record OwnCall (p : ℕ) (c : Course) (o : Outcome) : Type 0 where
-    pub steps-are : o .steps ≡ (c .to - p) + (p - c .to)
+  pub record OwnCall (m : Move) (p : ℕ) (o : Outcome) : Type 0 where
+    pub steps-are : o .steps ≡ (course T s₀ r m p .to - p) + (p - course T s₀ r m p .to)
     pub unrefused : (k : ℕ) → o .stop ≡ refused k → ⊥
-    pub back-unjammed : c .goesBack → o .stop ≡ jam → ⊥
-    pub back-log-fits : c .goesBack → o .stop ≡ logFull → ⊥
-    pub back-tape-fits : c .goesBack → o .stop ≡ tapeFull → ⊥
-    pub stop-says : c .says (o .stop)
-    pub carried-is : o .carried ≡ carriedBetween T s₀ p (c .to)
+    pub back-unjammed : wayOf m p ≡ back → o .stop ≡ jam → ⊥
+    pub back-log-fits : wayOf m p ≡ back → o .stop ≡ logFull → ⊥
+    pub back-tape-fits : wayOf m p ≡ back → o .stop ≡ tapeFull → ⊥
+    pub stop-says : course T s₀ r m p .says (o .stop)
+    pub carried-is : o .carried ≡ carriedBetween T s₀ p (course T s₀ r m p .to)
 
   -- A call of the list's own, given g: refused by its own number, and then it gives back what stood, or as above.
   abbrev pub AsOwn : Option ℕ → Move → ℕ → Given → Outcome → Type 0
   AsOwn (some k) m p g o = (o .stop ≡ refused k) × RefusedCall g o
-  AsOwn none m p g o = OwnCall p (course T s₀ r m p) o
+  AsOwn none m p g o = OwnCall m p o
 
   abbrev pub AsDemanded : ℕ → ℕ → Standing → Call → Type 0
   AsDemanded n p st (own m u) = AsOwn (ownNumber m (T .nodes) p) m p (givenTo u n st) (outcomeOf m (givenTo u n st))

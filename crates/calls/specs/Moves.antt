@@ -1,6 +1,7 @@
--- The calls that wind, by their kinds: what each answers, which number of its own refuses it, and what it does in a list of the third demand, counted on the plain machine alone.
+-- The calls that wind, by their kinds: what each answers, which number of its own refuses it, which way it goes, and what it does in a list of the third demand, counted on the plain machine alone.
 use mathlib.Core.Path.{_≡_}
 use mathlib.Core.Logic.{_⊎_, _↔_}
+use mathlib.Core.Bool.{cond}
 use mathlib.Core.Option.{Option, some}
 use mathlib.Core.List.{List, []}
 use Prim.Native.Nat.{ℕ, _+_, _-_, _≤_, _<_, min}
@@ -40,10 +41,16 @@ ownTests (forward-to v c) n p = spotTests n (v .node)
 abbrev pub ownNumber : Move → ℕ → ℕ → Option ℕ
 ownNumber m n p = first (ownTests m n p)
 
--- What a call of the list that its own number does not refuse does at p: where it takes p, whether it goes back from there, and what its stop says.
+-- which way it goes from position p: "go-to takes a position and is forward or back by the difference"
+abbrev pub wayOf : Move → ℕ → Way
+wayOf (by way c) p = way
+wayOf (go-to q) p = cond (leb p q) forward back
+wayOf (back-to v) p = back
+wayOf (forward-to v c) p = forward
+
+-- What a call of the list that its own number does not refuse does at p: where it takes p, and what its stop says.
 pub record Course : Type 1 where
   pub to : ℕ
-  pub goesBack : Type 0
   pub says : Stop → Type 0
 
 -- On the table T, from a state s₀ at position 0.
@@ -75,12 +82,8 @@ module _ (T : Table) (s₀ : State) (r : Room) where
 
   -- A call back by c takes off min c p, and go-to is forward or back by the difference. Of the stop of a call by a count, and of go-to, the list says no more than of every call.
   abbrev pub course : Move → ℕ → Course
-  course (by forward c) p = record { to = p + allowed T s₀ r c p; goesBack = ⊥; says = λ x. Unit }
-  course (by back c) p = record { to = p - min c p; goesBack = Unit; says = λ x. Unit }
-  course (go-to q) p = record {
-    to = choose (leb p q) (λ _. p + allowed T s₀ r (q - p) p) (λ _. p - min (p - q) p);
-    goesBack = q < p;
-    says = λ x. Unit;
-  }
-  course (back-to v) p = record { to = lastFound T s₀ v p; goesBack = Unit; says = λ x. SaysBack T s₀ v p (lastFound T s₀ v p) x }
-  course (forward-to v c) p = record { to = nextFound v c p; goesBack = ⊥; says = λ x. SaysForward v c p (nextFound v c p) x }
+  course (by forward c) p = record { to = p + allowed T s₀ r c p; says = λ x. Unit }
+  course (by back c) p = record { to = p - min c p; says = λ x. Unit }
+  course (go-to q) p = record { to = choose (leb p q) (λ _. p + allowed T s₀ r (q - p) p) (λ _. p - min (p - q) p); says = λ x. Unit }
+  course (back-to v) p = record { to = lastFound T s₀ v p; says = λ x. SaysBack T s₀ v p (lastFound T s₀ v p) x }
+  course (forward-to v c) p = record { to = nextFound v c p; says = λ x. SaysForward v c p (nextFound v c p) x }

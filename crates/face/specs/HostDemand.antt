@@ -12,7 +12,7 @@ use Rattle.calls.specs.Session.{Outcome}
 use Rattle.calls.specs.Stops.{Room, room}
 use Rattle.calls.specs.Calls.{longest, openOf}
 use Rattle.calls.specs.Demand
-use Rattle.calls.specs.Moves.{Move, outcomeOf, ownNumber, course}
+use Rattle.calls.specs.Moves.{Move, outcomeOf, ownNumber}
 use Rattle.calls.specs.Demand.{Permitted, Standing, positionBy, AsPlain, OwnCall}
 use Rattle.face.specs.declared.HostSession.{HostSession}
 use Rattle.face.specs.declared.HostOpening.{HostOpening}
@@ -70,7 +70,7 @@ module _ (T : Table) (s₀ : State) (r : Room) where
   -- A call of the list's own tells the number that refuses it, or an outcome as the third demand has it; a refused one gives back what it was handed.
   abbrev pub ToldAsOwn : Option ℕ → Move → ℕ → Kept → HostOutcome × List ℕ × List ℕ → Type 0
   ToldAsOwn (some k) m p h a = a ≡ refusedTold k (h .session) (h .log) (h .tape)
-  ToldAsOwn none m p h a = (o : Outcome) × OwnCall T s₀ r p (course T s₀ r m p) o × (a ≡ outcomeTold o)
+  ToldAsOwn none m p h a = (o : Outcome) × OwnCall T s₀ r m p o × (a ≡ outcomeTold o)
 
   abbrev pub ToldAsDemanded : ℕ → ℕ → Kept → HostCall → Type 0
   ToldAsDemanded n p h (own m u) = ToldAsOwn (ownNumber m (T .nodes) p) m p h (answerTo m u n h)

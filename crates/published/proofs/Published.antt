@@ -1,4 +1,4 @@
--- The plain machine of document 01 and the published machine of document 003 make the same runs: demand 2's "each step is the published machine's or its reverse".
+-- The plain machine of document 01 and the published machine of document 003 make the same runs: each step is a transition, and each step back one taken back.
 use mathlib.Core.Path.{_≡_, refl, sym, ap, _∙_, subst}
 use mathlib.Core.Logic.{_↔_}
 use mathlib.Core.Option.{none, some, Option·some-injective, Option·none-ne-some}
