@@ -11,13 +11,13 @@ use Rattle.machine.specs.Good.{Good}
 use Rattle.calls.specs.Session.{refused, Outcome, Given}
 use Rattle.calls.specs.Stops.{Moment, moment, Room, room}
 use Rattle.calls.specs.Calls.{longest, callTests, callNumber, Enters, refusedOutcome, wound}
-use Rattle.calls.specs.Moves.{Move, outcomeOf, ownTests, ownNumber, wayOf}
+use Rattle.calls.specs.Moves.{Move, outcomeOf, ownTests, ownNumber, wayOf, runOf}
 use Rattle.calls.specs.Demand.{givenTo, RefusedCall}
 use Rattle.calls.proofs.Order.{first-of-both}
 use Rattle.calls.proofs.Stops.{Fits}
 use Rattle.calls.proofs.Visits.{Unrefused, found-unrefused, none-unrefused, wind-unrefused}
 use Rattle.calls.proofs.Entering.{state-given, enters-unrefused, entered, laidDown, laid-room, laid-enters}
-use Rattle.calls.proofs.MoveLaws.{runOf, moveNumber, OfWalks}
+use Rattle.calls.proofs.MoveLaws.{moveNumber, OfWalks}
 use Rattle.calls.proofs.EachMove.{laws}
 
 -- a refused call

@@ -3,28 +3,20 @@ use mathlib.Core.Path.{_≡_}
 use mathlib.Core.Option.{Option}
 use mathlib.Core.List.{_++_}
 use Prim.Native.Nat.{ℕ, _+_, _-_}
-use lib.Dec.{leb}
-use Rattle.term.specs.Choice.{first, choose}
+use Rattle.term.specs.Choice.{first}
 use Rattle.term.specs.Table.{Table, tableIn}
 use Rattle.term.specs.Facts.{Facts}
 use Rattle.machine.specs.Machine.{State}
 use Rattle.machine.specs.Good.{Good}
 use Rattle.machine.specs.Carried.{carriedBetween}
 use Rattle.calls.specs.Session.{Stop, Outcome, Given}
-use Rattle.calls.specs.Stops.{Way, forward, back, Moment, moment, Room, room}
+use Rattle.calls.specs.Stops.{Way, back, Moment, moment, Room, room}
 use Rattle.calls.specs.Winding.{Run, ended, wind}
 use Rattle.calls.specs.Calls.{stateGiven, callTests, outcomeBy}
-use Rattle.calls.specs.Visits.{seek, seekBack, foundBy}
-use Rattle.calls.specs.Moves.{Move, by, go-to, back-to, forward-to, outcomeOf, ownTests, wayOf, Course, course}
+use Rattle.calls.specs.Visits.{foundBy}
+use Rattle.calls.specs.Moves.{Move, outcomeOf, ownTests, wayOf, runOf, Course, course}
 use Rattle.calls.proofs.Stops.{Fits}
 use Rattle.calls.proofs.Runs.{Unhindered, Trail}
-
--- the walk of each kind of call, from a moment
-abbrev pub runOf : Move → Table → Room → Moment → Run
-runOf (by way c) T r m = wind way T r c m
-runOf (go-to q) T r m = choose (leb (m .position) q) (λ _. wind forward T r (q - m .position) m) (λ _. wind back T r (m .position - q) m)
-runOf (back-to v) T r m = seekBack T r v m
-runOf (forward-to v c) T r m = seek forward T r v c m
 
 -- One shape: the first that applies of 7 to 9 and the call's own tests refuses it, and else it winds from the state given.
 abbrev pub moveNumber : Move → Given → Option ℕ

@@ -17,14 +17,14 @@ use Rattle.calls.specs.Session.{Outcome, Given}
 use Rattle.calls.specs.Stops.{moment, Room, room}
 use Rattle.calls.specs.Winding.{Run}
 use Rattle.calls.specs.Calls.{longest, openNumber, wound, openOf}
-use Rattle.calls.specs.Moves.{Move, outcomeOf, ownNumber, wayOf, course}
+use Rattle.calls.specs.Moves.{Move, outcomeOf, ownNumber, wayOf, runOf, course}
 use Rattle.calls.specs.Demand.{Call, own, other, AllPermitted, Standing, leftByOpen, leftBy, givenTo, positionBy, AsPlain, AsOwn, Demanded, ThirdDemand}
 use Rattle.calls.proofs.Unrefused.{lent-unrefused}
 use Rattle.calls.proofs.Stops.{Fits}
 use Rattle.calls.proofs.Runs.{Unhindered, Trail, begun, trail-after, trail-fits, trail-good}
 use Rattle.calls.proofs.Visits.{Unrefused}
 use Rattle.calls.proofs.Entering.{laidDown}
-use Rattle.calls.proofs.MoveLaws.{runOf, Takes}
+use Rattle.calls.proofs.MoveLaws.{Takes}
 use Rattle.calls.proofs.EachMove.{laws}
 use Rattle.calls.proofs.Answers.{as-given, run-unrefused, refused-unchanged, laid-moved, laid-refused}
 

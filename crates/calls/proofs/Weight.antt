@@ -23,14 +23,13 @@ use Rattle.calls.specs.Winding.{Run, wind}
 use Rattle.calls.specs.Calls.{longest, Enters}
 use Rattle.calls.specs.Walks.{Walked, PeakOver}
 use Rattle.calls.specs.Visits.{foundBy}
-use Rattle.calls.specs.Moves.{Move, outcomeOf, ownNumber, wayOf}
+use Rattle.calls.specs.Moves.{Move, outcomeOf, ownNumber, wayOf, runOf}
 use Rattle.calls.proofs.Stops.{Fits, fits-next}
 use Rattle.calls.proofs.Winds.{each-run}
 use Rattle.calls.proofs.Digits.{digits-are, digits-at-most, digits-once}
 use Rattle.calls.proofs.Peaks.{walked-nowhere, walked}
 use Rattle.calls.proofs.Visits.{wind-none}
 use Rattle.calls.proofs.Entering.{enters-fits}
-use Rattle.calls.proofs.MoveLaws.{runOf}
 use Rattle.calls.proofs.EachMove.{laws}
 use Rattle.calls.proofs.Answers.{moved, each-outcome}
 

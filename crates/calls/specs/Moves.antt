@@ -1,4 +1,4 @@
--- The calls that wind, by their kinds: what each answers, which number of its own refuses it, which way it goes, and what it does in a list of the third demand, counted on the plain machine alone.
+-- The calls that wind, by their kinds: what each answers, which number of its own refuses it, which way it goes and how, and what it does in a list of the third demand, counted on the plain machine alone.
 use mathlib.Core.Path.{_≡_}
 use mathlib.Core.Logic.{_⊎_, _↔_}
 use mathlib.Core.Bool.{cond}
@@ -10,9 +10,10 @@ use Rattle.term.specs.Choice.{Test, first, ifSome, choose}
 use Rattle.term.specs.Table.{Table}
 use Rattle.machine.specs.Machine.{State}
 use Rattle.calls.specs.Session.{Stop, found, Outcome, Given}
-use Rattle.calls.specs.Stops.{Way, forward, back, Room}
+use Rattle.calls.specs.Stops.{Way, forward, back, Moment, Room}
+use Rattle.calls.specs.Winding.{Run, wind}
 use Rattle.calls.specs.Calls.{windOf, goToOf}
-use Rattle.calls.specs.Visits.{Spot, spotTests, backToOf, forwardToOf}
+use Rattle.calls.specs.Visits.{Spot, seek, seekBack, spotTests, backToOf, forwardToOf}
 use Rattle.calls.specs.Allowed.{stopAfter, allowed}
 use Rattle.calls.specs.Visited.{VisitedAt, lastVisit, nextVisit, LastBefore, FirstAfter}
 
@@ -47,6 +48,13 @@ wayOf (by way c) p = way
 wayOf (go-to q) p = cond (leb p q) forward back
 wayOf (back-to v) p = back
 wayOf (forward-to v c) p = forward
+
+-- the walk that it makes from a moment
+abbrev pub runOf : Move → Table → Room → Moment → Run
+runOf (by way c) T r m = wind way T r c m
+runOf (go-to q) T r m = choose (leb (m .position) q) (λ _. wind forward T r (q - m .position) m) (λ _. wind back T r (m .position - q) m)
+runOf (back-to v) T r m = seekBack T r v m
+runOf (forward-to v c) T r m = seek forward T r v c m
 
 -- What a call of the list that its own number does not refuse does at p: where it takes p, and what its stop says.
 pub record Course : Type 1 where
