@@ -13,8 +13,8 @@ enum { STACK = 8 << 20, PAINT = 0xA5, TABLE = 5 * YILDREUZ_MOST_NODES };
 
 static uint8_t text[YILDREUZ_MOST_BYTES], written[YILDREUZ_MOST_BYTES];
 static size_t text_len;
-static uint32_t table[TABLE], log_words[YILDREUZ_LONGEST], tape_words[YILDREUZ_LONGEST];
-static uint32_t n;
+static uint16_t table[TABLE];
+static uint32_t log_words[YILDREUZ_LONGEST], tape_words[YILDREUZ_LONGEST], n;
 static yildreuz_session session;
 
 #define ALL_SLICES log_words, YILDREUZ_LONGEST, tape_words, YILDREUZ_LONGEST
@@ -113,12 +113,12 @@ static void measure_calls(const char *on)
 static void deepest_table(void)
 {
     n = YILDREUZ_MOST_NODES;
+    uint16_t *kind = table, *left = table + n, *right = table + 2 * n, *parent = table + 3 * n, *level = table + 4 * n;
     for (uint32_t i = 1; i <= n; i++) {
-        uint32_t *row = table + 5 * (i - 1);
-        row[0] = i < n ? 2 : 1;
-        row[1] = i < n ? i + 1 : 1;
-        row[2] = row[4] = 0;
-        row[3] = i - 1;
+        kind[i - 1] = i < n ? 2 : 1;
+        left[i - 1] = i < n ? i + 1 : 1;
+        right[i - 1] = level[i - 1] = 0;
+        parent[i - 1] = i - 1;
     }
 }
 

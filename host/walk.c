@@ -9,8 +9,8 @@ enum { MOST_STEPS = 10000, ROOM = 1024 };
 
 /* What the viewer owns: everything. */
 static uint8_t text[YILDREUZ_MOST_BYTES + 1]; /* one byte more than a text may have, so that a longer one shows */
-static uint32_t table[5 * YILDREUZ_MOST_NODES], log_words[ROOM], tape_words[ROOM];
-static uint32_t n;
+static uint16_t table[5 * YILDREUZ_MOST_NODES];
+static uint32_t log_words[ROOM], tape_words[ROOM], n;
 
 static const char *const stop_names[] = {"spent", "answer", "jam", "far", "start", "log full", "tape full", "refused",
                                          "found", "none"};

@@ -29,16 +29,25 @@
         outermost binder                                 than are lent
                                                      12  the node to be visited is 0 or over n, or the direction of
                                                          the visit is neither 0 nor 1
+   A table's words have 16 bits, and 6 and 7 count these; those of log and tape have 32.
    Each call tests its numbers in this order: read 1 to 6; read_numbers 1, 13, 14, 6; write and write_numbers 7, 11;
    to_numbers 1 to 5, 11; to_names 1, 13, 14, 11; open 7, 8; forward, back and go_to 7 to 9; back_to and forward_to 7 to 9,
    12; top 7 to 10.
 
-   What lies in the slices. Node i of a table, 1 to n, has the words table[5(i-1)] to table[5(i-1)+4]: its kind (1 a
-   variable, 2 an abstraction, 3 an application), its left part (of a variable the binder, of an abstraction the body, of
-   an application the function), its right part (of an application the argument, else 0), its parent (0 at the root, which
-   is node 1) and its level (in how many arguments it stands). Log and tape grow from the first word of their slices up.
-   An entry is the entries inside it and, last, its variable's node: level(v) - level(left(v)) entries are inside that of
-   the variable v. A bullet, on the tape alone, is the word 0. The words above both lists are 0.
+   What lies in the slices. A table is five columns of n words, one behind the other: the nodes' kinds, lefts, rights,
+   parents and levels. Field f of node i, f from 0 to 4 and i from 1 to n, is table[f * n + i - 1], so that a pointer to its
+   first word is all that a column needs:
+
+     const uint16_t *kind = table, *left = table + n, *right = table + 2 * n;
+     const uint16_t *parent = table + 3 * n, *level = table + 4 * n;
+
+   and node i has kind[i - 1] (1 a variable, 2 an abstraction, 3 an application), left[i - 1] (of a variable the binder, of
+   an abstraction the body, of an application the function), right[i - 1] (of an application the argument, else 0),
+   parent[i - 1] (0 at the root, which is node 1) and level[i - 1] (in how many arguments it stands). The columns are as long
+   as the n that a call is handed says; words of the slice behind the fifth are neither read nor written.
+   Log and tape grow from the first word of their slices up. An entry is the entries inside it and, last, its variable's
+   node: level(v) - level(left(v)) entries are inside that of the variable v. A bullet, on the tape alone, is the word 0. The
+   words above both lists are 0.
 
    Two dialects of text. The one with names is that of read and write. The number dialect has \ before a body, @ before
    function and argument, and for a variable a decimal number without leading zeros: how many abstractions stand between
@@ -69,7 +78,7 @@ extern "C" {
 
 enum {
     YILDREUZ_MOST_BYTES = 3000,          /* of a text, read or written */
-    YILDREUZ_MOST_NODES = 3000,          /* of a term; its table has 5 words for each node */
+    YILDREUZ_MOST_NODES = 3000,          /* of a term; its table has 5 words, of 16 bits, for each node */
     YILDREUZ_LONGEST = 16384,            /* words of a log or a tape slice; 0 is permitted */
     YILDREUZ_READ_STACK = 768 * 1024,    /* bytes of stack that yildreuz_read or yildreuz_read_numbers needs at most */
     YILDREUZ_CONVERT_STACK = 896 * 1024, /* bytes of stack that yildreuz_to_numbers or yildreuz_to_names needs at most */
@@ -154,13 +163,13 @@ typedef struct yildreuz_part {
    Refuses with 1 to 6, and then every word of the table stays.
    Needs YILDREUZ_READ_STACK bytes of stack.
    The caller promises: the table does not overlap the text; and what the top of this file says of pointers. */
-yildreuz_reading yildreuz_read(const uint8_t *text, size_t text_len, uint32_t *table, size_t table_len);
+yildreuz_reading yildreuz_read(const uint8_t *text, size_t text_len, uint16_t *table, size_t table_len);
 
 /* Reads a closed term in the number dialect: its table is the one that yildreuz_read gives for the same term with names. A
    number of any length is the number it is, so that one too large for a word is a 14.
    Borrows, needs and leaves to the caller what yildreuz_read does.
    Refuses with 1, 13, 14 or 6, each put to the whole text before the next, and then every word of the table stays. */
-yildreuz_reading yildreuz_read_numbers(const uint8_t *text, size_t text_len, uint32_t *table, size_t table_len);
+yildreuz_reading yildreuz_read_numbers(const uint8_t *text, size_t text_len, uint16_t *table, size_t table_len);
 
 /* Writes the text of the term whose table it is. A binder is named v and its node's number, one space stands between
    atoms, round brackets stand only where the grammar needs them, and neither a 0 nor a line feed ends it: (\x.x x)(\y.y)
@@ -169,13 +178,13 @@ yildreuz_reading yildreuz_read_numbers(const uint8_t *text, size_t text_len, uin
    Refuses with 7 or 11, and then every byte of text stays. There is no use in lending more than YILDREUZ_MOST_BYTES.
    Needs YILDREUZ_CALL_STACK bytes of stack.
    The caller promises: text does not overlap the table; and what the top of this file says of pointers. */
-yildreuz_written yildreuz_write(const uint32_t *table, size_t table_len, uint32_t n, uint8_t *text, size_t text_len);
+yildreuz_written yildreuz_write(const uint16_t *table, size_t table_len, uint32_t n, uint8_t *text, size_t text_len);
 
 /* Writes the text of the term whose table it is in the number dialect; neither a 0 nor a line feed ends it. Reading that
    with yildreuz_read_numbers, into 5 x n words or more, gives the same table, and a table that was read from such a text
    is written as that text, byte for byte.
    Borrows, refuses, needs and leaves to the caller what yildreuz_write does. */
-yildreuz_written yildreuz_write_numbers(const uint32_t *table, size_t table_len, uint32_t n,
+yildreuz_written yildreuz_write_numbers(const uint16_t *table, size_t table_len, uint32_t n,
                                         uint8_t *text, size_t text_len);
 
 /* Converts a text with names into the number dialect: reads it as yildreuz_read does, into a table of the call's own, and
@@ -199,7 +208,7 @@ yildreuz_written yildreuz_to_names(const uint8_t *text, size_t text_len, uint8_t
    Refuses with 7 or 8, and then every word of log and tape stays.
    Needs YILDREUZ_CALL_STACK bytes of stack.
    The caller promises: log and tape overlap neither each other nor the table; and what the top says of pointers. */
-yildreuz_opening yildreuz_open(const uint32_t *table, size_t table_len, uint32_t n,
+yildreuz_opening yildreuz_open(const uint16_t *table, size_t table_len, uint32_t n,
                                uint32_t *log, size_t log_len, uint32_t *tape, size_t tape_len);
 
 /* Makes count steps forward, or fewer if another stop comes first.
@@ -207,18 +216,18 @@ yildreuz_opening yildreuz_open(const uint32_t *table, size_t table_len, uint32_t
    Refuses with 7 to 9, and then every word of log and tape stays, and the session comes back as given.
    Needs YILDREUZ_CALL_STACK bytes of stack.
    The caller promises: log and tape overlap neither each other nor the table; and what the top says of pointers. */
-yildreuz_outcome yildreuz_forward(const uint32_t *table, size_t table_len, uint32_t n, yildreuz_session session,
+yildreuz_outcome yildreuz_forward(const uint16_t *table, size_t table_len, uint32_t n, yildreuz_session session,
                                   uint32_t *log, size_t log_len, uint32_t *tape, size_t tape_len, uint32_t count);
 
 /* Makes count steps back, or fewer if another stop comes first. After forward, back by the steps made gives the session
    and every word of both slices as they were.
    Borrows, refuses, needs and leaves to the caller what yildreuz_forward does. */
-yildreuz_outcome yildreuz_back(const uint32_t *table, size_t table_len, uint32_t n, yildreuz_session session,
+yildreuz_outcome yildreuz_back(const uint16_t *table, size_t table_len, uint32_t n, yildreuz_session session,
                                uint32_t *log, size_t log_len, uint32_t *tape, size_t tape_len, uint32_t count);
 
 /* Goes to a position: forward or back by the difference.
    Borrows, refuses, needs and leaves to the caller what yildreuz_forward does. */
-yildreuz_outcome yildreuz_go_to(const uint32_t *table, size_t table_len, uint32_t n, yildreuz_session session,
+yildreuz_outcome yildreuz_go_to(const uint16_t *table, size_t table_len, uint32_t n, yildreuz_session session,
                                 uint32_t *log, size_t log_len, uint32_t *tape, size_t tape_len, uint32_t position);
 
 /* Goes back to the last earlier position at which the token stood on the node in the direction, and ends there as
@@ -228,7 +237,7 @@ yildreuz_outcome yildreuz_go_to(const uint32_t *table, size_t table_len, uint32_
    too, and the positions are the session's own. It has no other stop but YILDREUZ_REFUSED.
    Borrows, needs and leaves to the caller what yildreuz_forward does, and refuses as it does, with 7 to 9 or 12, of which
    12 is also for a direction other than 0 and 1. */
-yildreuz_outcome yildreuz_back_to(const uint32_t *table, size_t table_len, uint32_t n, yildreuz_session session,
+yildreuz_outcome yildreuz_back_to(const uint16_t *table, size_t table_len, uint32_t n, yildreuz_session session,
                                   uint32_t *log, size_t log_len, uint32_t *tape, size_t tape_len,
                                   uint32_t node, uint32_t direction);
 
@@ -237,7 +246,7 @@ yildreuz_outcome yildreuz_back_to(const uint32_t *table, size_t table_len, uint3
    forward by count reaches no such position, it ends where that ends, with its stop.
    Borrows, needs and leaves to the caller what yildreuz_forward does, and refuses as it does, with 7 to 9 or 12, of which
    12 is also for a direction other than 0 and 1. */
-yildreuz_outcome yildreuz_forward_to(const uint32_t *table, size_t table_len, uint32_t n, yildreuz_session session,
+yildreuz_outcome yildreuz_forward_to(const uint16_t *table, size_t table_len, uint32_t n, yildreuz_session session,
                                      uint32_t *log, size_t log_len, uint32_t *tape, size_t tape_len,
                                      uint32_t node, uint32_t direction, uint32_t count);
 
@@ -249,7 +258,7 @@ yildreuz_outcome yildreuz_forward_to(const uint32_t *table, size_t table_len, ui
    Refuses with 7 to 10. A number other than 0 and 1 chooses no list.
    Needs YILDREUZ_CALL_STACK bytes of stack.
    The caller promises: refusal points at a word in none of the three slices; and what the top says of pointers. */
-yildreuz_part yildreuz_top(const uint32_t *table, size_t table_len, uint32_t n, yildreuz_session session,
+yildreuz_part yildreuz_top(const uint16_t *table, size_t table_len, uint32_t n, yildreuz_session session,
                            const uint32_t *log, size_t log_len, const uint32_t *tape, size_t tape_len, uint32_t which,
                            uint32_t *refusal);
 

@@ -8,8 +8,9 @@ and used so, with host/ in PYTHONPATH:
     import yildreuz
 
     lib = yildreuz.Library('target/libyildreuz.so')
-    table, log, tape = yildreuz.words(100), yildreuz.words(64), yildreuz.words(64)
+    table, log, tape = yildreuz.table_words(100), yildreuz.words(64), yildreuz.words(64)
     n, refusal = lib.read(rb'(\x.x x)(\y.y)', table)
+    parents = memoryview(table)[3 * n:4 * n]    # a column of the table, no word of it copied: 0, 1, 2, 3, 3, 1, 6 for the nodes 1 to 7
     session, refusal = lib.open(table, n, log, tape)
     out = lib.forward(table, n, session, log, tape, 100)    # out.steps 12, out.stop ANSWER, out.value 6, out.peak 6 (in bits), out.carried 6
     part, refusal = lib.top(table, n, out.session, log, tape, yildreuz.LOG)
@@ -22,10 +23,11 @@ and used so, with host/ in PYTHONPATH:
     written = lib.write_numbers(table, n, text)    # and now rb'@ \ @ 0 0 \ 0', which lib.read_numbers reads
     written = lib.to_names(rb'@ \ @ 0 0 \ 0', text)    # the names again; lib.to_numbers goes the other way
 
-Table, log and tape are the caller's: `words(k)`, or any writable buffer of 32-bit words such as an array('I') or a memoryview of a part of one. So is what
-a text is written into: a bytearray, or any other writable buffer of bytes. A call borrows them while it runs and writes into them in place. Sessions and
-answers are tuples of numbers. What the answers mean, what each number refuses and what a refusal leaves stands in yildreuz.h. What that header leaves to the
-caller to promise is tested here: a buffer of other items, slices that overlap, or a number that is no 32-bit word raise an error before the call.
+Table, log and tape are the caller's: `table_words(k)`, or any writable buffer of 16-bit words such as an array('H'), for the table, and `words(k)`, or any
+writable buffer of 32-bit words such as an array('I'), for log and tape; a memoryview of a part of one will do. So is what a text is written into: a bytearray,
+or any other writable buffer of bytes. A call borrows them while it runs and writes into them in place. Sessions and answers are tuples of numbers. What lies in
+a table, what the answers mean, what each number refuses and what a refusal leaves stands in yildreuz.h. What that header leaves to the caller to promise is
+tested here: a buffer of other items, slices that overlap, or a number that is no 32-bit word raise an error before the call.
 """
 import ctypes
 from array import array
@@ -84,8 +86,13 @@ class Top(NamedTuple):
 
 
 def words(count):
-    """A slice of so many words, all 0."""
+    """A slice of so many words for a log or a tape, all 0."""
     return array('I', bytes(4 * count))
+
+
+def table_words(count):
+    """A slice of so many words for a table, all 0: five columns of n words each, kind, left, right, parent and level."""
+    return array('H', bytes(2 * count))
 
 
 # The structs of yildreuz.h.
@@ -117,13 +124,16 @@ def _word(number):
 
 # Pointer and length of what is lent: what yildreuz.h leaves to the caller's promise is tested here.
 
-def _lent(*slices, texts=()):
-    """Slices are of words, texts of bytes; in this order."""
+_TABLE, _LIST, _TEXT = (ctypes.c_uint16, 'H'), (ctypes.c_uint32, 'I'), (ctypes.c_uint8, 'B')
+
+
+def _lent(*slices):
+    """Of each slice its kind, _TABLE, _LIST (log or tape) or _TEXT, and the buffer."""
     arguments, ends = [], []
-    for buffer, item, code in [(x, ctypes.c_uint32, 'I') for x in slices] + [(x, ctypes.c_uint8, 'B') for x in texts]:
+    for (item, code), buffer in slices:
         view, size = memoryview(buffer), ctypes.sizeof(item)
         if view.ndim != 1 or view.format not in (code, '<' + code, '=' + code) or view.readonly or not view.c_contiguous:
-            raise TypeError('a slice is a writable buffer of 32-bit words, and a text to be written one of bytes')
+            raise TypeError('a table is a writable buffer of 16-bit words, log and tape of 32-bit words, and a text to be written of bytes')
         # none may be NULL, so what has no items is lent as a spare one
         lent = (item * len(view)).from_buffer(view) if len(view) else (item * 1)()
         start = ctypes.addressof(lent)
@@ -142,7 +152,8 @@ def _lent_text(text):
     return (ctypes.c_uint8 * (len(text) or 1)).from_buffer_copy(text or b'\0'), len(text)
 
 
-_WORDS, _BYTES, _LEN, _WORD = ctypes.POINTER(ctypes.c_uint32), ctypes.POINTER(ctypes.c_uint8), ctypes.c_size_t, ctypes.c_uint32
+_COLUMNS, _WORDS, _BYTES = (ctypes.POINTER(item) for item in (ctypes.c_uint16, ctypes.c_uint32, ctypes.c_uint8))
+_LEN, _WORD = ctypes.c_size_t, ctypes.c_uint32
 
 
 class Library:
@@ -151,15 +162,15 @@ class Library:
     def __init__(self, path):
         lib = ctypes.CDLL(str(path))
         slices = [_WORDS, _LEN, _WORDS, _LEN]
-        reading, writing, converting = [_BYTES, _LEN, _WORDS, _LEN], [_WORDS, _LEN, _WORD, _BYTES, _LEN], [_BYTES, _LEN, _BYTES, _LEN]
+        reading, writing, converting = [_BYTES, _LEN, _COLUMNS, _LEN], [_COLUMNS, _LEN, _WORD, _BYTES, _LEN], [_BYTES, _LEN, _BYTES, _LEN]
         self._read = self._call(lib.yildreuz_read, _Reading, reading)
         self._read_numbers = self._call(lib.yildreuz_read_numbers, _Reading, reading)
         self._write = self._call(lib.yildreuz_write, _Written, writing)
         self._write_numbers = self._call(lib.yildreuz_write_numbers, _Written, writing)
         self._to_numbers = self._call(lib.yildreuz_to_numbers, _Written, converting)
         self._to_names = self._call(lib.yildreuz_to_names, _Written, converting)
-        self._open = self._call(lib.yildreuz_open, _Opening, [_WORDS, _LEN, _WORD] + slices)
-        winding = [_WORDS, _LEN, _WORD, _Session] + slices + [_WORD]
+        self._open = self._call(lib.yildreuz_open, _Opening, [_COLUMNS, _LEN, _WORD] + slices)
+        winding = [_COLUMNS, _LEN, _WORD, _Session] + slices + [_WORD]
         self._forward = self._call(lib.yildreuz_forward, _Outcome, winding)
         self._back = self._call(lib.yildreuz_back, _Outcome, winding)
         self._go_to = self._call(lib.yildreuz_go_to, _Outcome, winding)
@@ -198,7 +209,7 @@ class Library:
 
     def open(self, table, n, log, tape):
         """Opens a session at the start of the walk, and zeroes log and tape."""
-        table, log, tape = _lent(table, log, tape)
+        table, log, tape = _lent((_TABLE, table), (_LIST, log), (_LIST, tape))
         return _told(Opening, self._open(*table, _word(n), *log, *tape))
 
     def forward(self, table, n, session, log, tape, count):
@@ -223,28 +234,28 @@ class Library:
 
     def top(self, table, n, session, log, tape, which):
         """Points at the newest entry of LOG or TAPE: the part of that buffer in which it lies, and a refusal's number."""
-        table, log, tape = _lent(table, log, tape)
+        table, log, tape = _lent((_TABLE, table), (_LIST, log), (_LIST, tape))
         refusal = ctypes.c_uint32()
         part = self._top(*table, _word(n), _Session(*map(_word, session)), *log, *tape, _word(which), ctypes.byref(refusal))
         return Top(_told(Part, part), refusal.value)
 
     @staticmethod
     def _lay_out(call, text, table):
-        (table,) = _lent(table)
+        (table,) = _lent((_TABLE, table))
         return _told(Reading, call(*_lent_text(text), *table))
 
     @staticmethod
     def _put_down(call, table, n, text):
-        table, text = _lent(table, texts=[text])
+        table, text = _lent((_TABLE, table), (_TEXT, text))
         return _told(Written, call(*table, _word(n), *text))
 
     @staticmethod
     def _convert(call, text, out):
-        (out,) = _lent(texts=[out])
+        (out,) = _lent((_TEXT, out))
         return _told(Written, call(*_lent_text(text), *out))
 
     @staticmethod
     def _wind(call, table, n, session, log, tape, *numbers):
-        table, log, tape = _lent(table, log, tape)
+        table, log, tape = _lent((_TABLE, table), (_LIST, log), (_LIST, tape))
         session = _Session(*map(_word, session))
         return _told(Outcome, call(*table, _word(n), session, *log, *tape, *map(_word, numbers)))

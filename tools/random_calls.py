@@ -4,8 +4,8 @@
   tools/random_calls.py LIBRARY [CALLS [SEED]]
 
 Texts are closed terms, written with blanks and brackets that the grammar permits or in the number dialect, and damaged ones; tables, slices and sessions are
-those that the calls left, and damaged ones; terms are written, and texts converted, into about as many bytes as the result has; the visits looked for are
-mostly of nodes that the token comes to. Every number of every answer is compared, every word or byte of what is lent, and those that stand before and after
+those that the calls left, and damaged ones, tables also with another n, in rows where columns belong, and short of words; terms are written, and texts
+converted, into about as many bytes as the result has; the visits looked for are mostly of nodes that the token comes to. Every number of every answer is compared, every word or byte of what is lent, and those that stand before and after
 it. At the end every stop and every refusal must have come up, from each call that gives it. First, what the wrapper itself must refuse.
 """
 import pathlib
@@ -44,7 +44,7 @@ DUE['back_to'] = {'found', 'none', 'no direction', 'no chosen direction'} | {'re
 
 
 class Lent:
-    """Words, or bytes, in the middle of others, which no call may change."""
+    """Words of a log or a tape ('I'), of a table ('H'), or bytes ('B'), in the middle of others, which no call may change."""
 
     def __init__(self, rng, values, code='I'):
         self.size = len(values)
@@ -162,23 +162,45 @@ SOURCE = {'to_names': 'read_numbers', 'to_numbers': 'read'}
 BACK = {'to_names': 'to_numbers', 'to_numbers': 'to_names'}
 
 
-def text_of(name, rows):
-    """The text that the call writes of accepted rows, however long."""
-    return reference.numbered(rows) if READER[name] == 'read_numbers' else reference.spelled(reference.named_tree(rows))
+def text_of(name, nodes):
+    """The text that the call writes of accepted nodes, however long."""
+    return reference.numbered(nodes) if READER[name] == 'read_numbers' else reference.spelled(reference.named_tree(nodes))
 
 
 # ---- damage: words that are near what is right
 
-def damaged(rng, words, n):
+def damaged(rng, words, n, bits=32):
     words = list(words)
     for _ in range(rng.randint(1, 2)):
         if words:
-            words[rng.randrange(len(words))] = rng.choice([0, 1, 2, 3, rng.randint(0, n + 2), rng.getrandbits(32)])
+            words[rng.randrange(len(words))] = rng.choice([0, 1, 2, 3, rng.randint(0, min(n + 2, 2 ** bits - 1)), rng.getrandbits(bits)])
     return words
 
 
 def near(rng, n):
-    return rng.choice([n, n, n + 1, max(n, 1) - 1, 3001])
+    return rng.choice([n, n, n + 1, max(n, 1) - 1, 3001, 2 ** 16 + n])
+
+
+def in_rows(words, n):
+    """The same nodes with their five words side by side, as no call has them."""
+    return [word for node in reference.nodes_in(words, n) for word in node] + words[5 * n:]
+
+
+def damaged_table(rng, table, n):
+    """A table that is not right, or whose n is not, and that n; at times one that is right after all, as where a word behind the columns differs."""
+    words, kind = table.now(), rng.random()
+    if kind < 0.5:
+        words = damaged(rng, words, n, 16)
+    elif kind < 0.7:
+        n = near(rng, n)
+        words += [rng.choice([0, 1, 2, rng.getrandbits(16)]) for _ in range(rng.choice([0, 5, 10]))]  # for one node more, or two
+    elif kind < 0.8:
+        words = in_rows(words, n)
+    elif kind < 0.9:
+        words = words[:max(5 * n - rng.randint(0, 6), 0)]
+    else:
+        words += rng.choice([words, in_rows(words, n), [rng.getrandbits(16)]])  # behind the columns
+    return Lent(rng, words, 'H'), n
 
 
 def damaged_session(rng, s, n):
@@ -261,8 +283,8 @@ class Comparison:
         meant = getattr(reference, name)
         want = meant(text, 10 ** 9)[0]
         room = max(0, 5 * want + self.rng.choice([0, 0, 0, 1, 7, -1]))
-        before = [self.rng.getrandbits(32) for _ in range(room)]
-        table = Lent(self.rng, before)
+        before = [self.rng.getrandbits(16) for _ in range(room)]
+        table = Lent(self.rng, before, 'H')
         got = getattr(self.lib, name)(text, table.part)
         n, refusal, words = meant(text, room)
         self.same((got, table.now()), (yildreuz.Reading(n, refusal), words + before[len(words):]), (name, text, room))
@@ -287,9 +309,9 @@ class Comparison:
             if self.rng.random() < 0.5:
                 self.convert(written, BACK[name])
 
-    def put_down(self, name, rows, made, *given):
-        """A call that writes the text of rows, or refuses where there are none, into about as many bytes as that has; what is written, or None."""
-        most = len(text_of(name, rows)) if rows else 9
+    def put_down(self, name, nodes, made, *given):
+        """A call that writes the text of nodes, or refuses where there are none, into about as many bytes as that has; what is written, or None."""
+        most = len(text_of(name, nodes)) if nodes else 9
         room = self.rng.choice([most, most, most - 1, most + 1, most + self.rng.randint(2, 40), self.rng.randint(0, most), 0, 3000, 3500])
         before = [self.rng.getrandbits(8) for _ in range(room)]
         out = Lent(self.rng, before, 'B')
@@ -387,9 +409,9 @@ class Comparison:
         if n == 0 and rng.random() < 0.9:
             return
         if rng.random() < 0.3:
-            self.write(Lent(rng, damaged(rng, table.now(), n)), near(rng, n), rng.choice(['write', 'write_numbers']))
+            self.write(*damaged_table(rng, table, n), rng.choice(['write', 'write_numbers']))
         if rng.random() < 0.05:
-            table, n = Lent(rng, damaged(rng, table.now(), n)), near(rng, n)
+            table, n = damaged_table(rng, table, n)
         for name in ('write', 'write_numbers'):
             if rng.random() < 0.6:
                 self.write(table, n, name)
@@ -403,8 +425,7 @@ class Comparison:
                 if out.stop != yildreuz.REFUSED or rng.random() < 0.1:
                     s = out.session
             elif part < 0.9:
-                out = self.wind(Lent(rng, damaged(rng, table.now(), n)), rng.choice([n, n, n + 1, max(n, 1) - 1]), s, log, tape)
-                s = out.session
+                s = self.wind(*damaged_table(rng, table, n), s, log, tape).session
             else:
                 others = [Lent(rng, damaged(rng, x.now(), n)) for x in (log, tape)]
                 if rng.random() < 0.05:
@@ -424,21 +445,27 @@ class Comparison:
 
 def refuses_misuse(lib):
     """Buffers that are no slices of words or bytes, slices that overlap, and numbers that are no words: each is an error, and no word or byte differs."""
-    table, log, tape, text = yildreuz.words(10), yildreuz.words(4), yildreuz.words(4), bytearray(10)
+    table, log, tape, text = yildreuz.table_words(10), yildreuz.words(4), yildreuz.words(4), bytearray(10)
     n = lib.read(rb'\x.x', table).n
     start = lib.open(table, n, log, tape).session
-    shared = memoryview(yildreuz.words(8))
+    shared, narrow = memoryview(yildreuz.words(8)), memoryview(yildreuz.table_words(16))
     misuses = [
         (ValueError, lambda: lib.open(table, n, log, log)),
         (ValueError, lambda: lib.open(table, n, shared[:5], shared[4:])),
-        (ValueError, lambda: lib.forward(table, n, start, log, memoryview(table)[3:5], 1)),
+        (ValueError, lambda: lib.forward(table, n, start, log, memoryview(table).cast('B')[4:12].cast('I'), 1)),
+        (TypeError, lambda: lib.forward(table, n, start, log, narrow[3:5], 1)),
+        (TypeError, lambda: lib.forward(yildreuz.words(10), n, start, log, tape, 1)),
+        (TypeError, lambda: lib.open(shared, n, log, tape)),
+        (TypeError, lambda: lib.top(table, n, start, narrow, tape, yildreuz.LOG)),
         (TypeError, lambda: lib.read(4, table)),
         (TypeError, lambda: lib.read('\\x.x', table)),
         (TypeError, lambda: lib.read(rb'\x.x', bytes(40))),
-        (TypeError, lambda: lib.read(rb'\x.x', array('H', bytes(40)))),
+        (TypeError, lambda: lib.read(rb'\x.x', array('I', bytes(40)))),
+        (TypeError, lambda: lib.read(rb'\x.x', array('h', bytes(40)))),
         (TypeError, lambda: lib.read(rb'\x.x', [0] * 10)),
-        (TypeError, lambda: lib.read(rb'\x.x', memoryview(bytearray(41))[1:].cast('I'))),
-        (TypeError, lambda: lib.read(rb'\x.x', shared[::2])),
+        (TypeError, lambda: lib.read(rb'\x.x', memoryview(bytearray(41))[1:].cast('H'))),
+        (TypeError, lambda: lib.read(rb'\x.x', narrow[::2])),
+        (TypeError, lambda: lib.open(table, n, memoryview(bytearray(42))[2:].cast('I'), tape)),
         (OverflowError, lambda: lib.open(table, -1, log, tape)),
         (OverflowError, lambda: lib.back(table, n, start, log, tape, yildreuz.GREATEST + 1)),
         (OverflowError, lambda: lib.go_to(table, n, start._replace(node=yildreuz.GREATEST + 2), log, tape, 0)),
@@ -455,7 +482,7 @@ def refuses_misuse(lib):
         (TypeError, lambda: lib.write(table, n, memoryview(text)[::-1])),
         (TypeError, lambda: lib.write(bytearray(40), n, text)),
         (ValueError, lambda: lib.write(table, n, memoryview(table).cast('B'))),
-        (ValueError, lambda: lib.write(shared[2:4], n, memoryview(shared).cast('B')[15:])),
+        (ValueError, lambda: lib.write(narrow[4:8], n, narrow.cast('B')[15:])),
         (OverflowError, lambda: lib.write(table, -1, text)),
         (TypeError, lambda: lib.read_numbers(4, table)),
         (TypeError, lambda: lib.read_numbers('\\ 0', table)),
@@ -471,14 +498,14 @@ def refuses_misuse(lib):
         (TypeError, lambda: lib.to_names(rb'\ 0', b'')),
         (TypeError, lambda: lib.to_names(rb'\ 0', memoryview(text)[::-1])),
     ]
-    before = [list(x) for x in (table, log, tape, shared, text)]
+    before = [list(x) for x in (table, log, tape, shared, narrow, text)]
     for number, (error, misuse) in enumerate(misuses):
         try:
             misuse()
         except error:
             continue
         raise AssertionError('misuse %d is not refused' % number)
-    if before != [list(x) for x in (table, log, tape, shared, text)]:
+    if before != [list(x) for x in (table, log, tape, shared, narrow, text)]:
         raise AssertionError('a misuse has changed a word or a byte')
 
 

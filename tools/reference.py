@@ -1,11 +1,11 @@
 #!/usr/bin/env python3
-"""An independent reading of document 01, and of changes 1 to 3 and 5 to 7 of document 02, from which the expected outputs of the programs `cases` and `winder` are worked out.
+"""An independent reading of document 01, and of changes 1 to 3 and 5 to 8 of document 02, from which the expected outputs of the programs `cases` and `winder` are worked out.
 
   tools/reference.py cases < SCRIPT   what `cases` must print for a script of cases, as crates/cases/stdin (script.py)
   tools/reference.py winder < TERM    what `winder` must print for a term
 
-It shares nothing with the crates: terms are trees with names, entries are nested tuples, the machine is the eight rules over them, and a session is
-checked by reading its words back. It is slow and plain on purpose.
+It shares nothing with the crates: terms are trees with names, nodes are lists of five words, entries are nested tuples, the machine is the eight rules over
+them, and a session is checked by reading its words back. A table is a list of words in which the nodes stand in five columns. It is slow and plain on purpose.
 """
 import re
 import sys
@@ -83,8 +83,8 @@ def parse(ts):
     return closed(binders, atoms)
 
 
-def rows(tree):
-    """The rows of a tree, or Refused(5). Each node is (kind, left, right, parent, level), numbered in preorder."""
+def nodes_of(tree):
+    """The nodes of a tree, or Refused(5). Each is its kind, left, right, parent and level; they are numbered in preorder."""
     table = []
     work = [(tree, 0, 0, ())]  # tree, parent, level, scope as a linked list (name, node, outer)
     rights = {}
@@ -110,6 +110,17 @@ def rows(tree):
     return table
 
 
+def in_columns(table):
+    """The words of these nodes: every kind, then every left, every right, every parent and every level."""
+    return [node[field] for field in range(5) for node in table]
+
+
+def nodes_in(w, n):
+    """The n nodes whose five columns are the first 5 times n words; the words after them say nothing."""
+    kinds, lefts, rights, parents, levels = (w[field * n:field * n + n] for field in range(5))
+    return [list(node) for node in zip(kinds, lefts, rights, parents, levels)]
+
+
 def named_text(text):
     """The named tree of a text with names, or Refused(2) to Refused(4)."""
     if any(not (97 <= b <= 122 or 48 <= b <= 57 or b in b'\\.() \n') for b in text):
@@ -125,10 +136,10 @@ def reading(text, room, tree_of):
     try:
         if len(text) > 3000:
             raise Refused(1)
-        table = rows(tree_of(text))
+        table = nodes_of(tree_of(text))
         if room < 5 * len(table):
             raise Refused(6)
-        return len(table), 0, [w for r in table for w in r]
+        return len(table), 0, in_columns(table)
     except Refused as r:
         return 0, r.number, []
 
@@ -193,11 +204,11 @@ class Machine:
     def __init__(self, table):
         self.t = table
 
-    def row(self, i):
+    def node(self, i):
         return self.t[i - 1] if 1 <= i <= len(self.t) else [0, 0, 0, 0, 0]
 
     def arity(self, v):
-        return self.row(v)[4] - self.row(self.row(v)[1])[4]
+        return self.node(v)[4] - self.node(self.node(v)[1])[4]
 
     def step(self, s):
         """The next state, and the entries that its rule moves between log and tape; or None.
@@ -205,7 +216,7 @@ class Machine:
         Entries are (variable, (entries..)), a bullet is None; lists have their top first.
         """
         i, d, log, tape = s
-        kind, left, right, parent, level = self.row(i)
+        kind, left, right, parent, level = self.node(i)
         if d == 'd':
             if kind == 3:  # rule 1
                 return (left, 'd', log, [None] + tape), []
@@ -216,11 +227,11 @@ class Machine:
                 if a > len(log):
                     return None
                 return (left, 'u', log[a:], [(i, tuple(log[:a]))] + tape), log[:a]
-            if kind == 2 and tape and self.row(tape[0][0])[0] == 1 and self.row(tape[0][0])[1] == i:  # rule 4: the inner entries
+            if kind == 2 and tape and self.node(tape[0][0])[0] == 1 and self.node(tape[0][0])[1] == i:  # rule 4: the inner entries
                 v, es = tape[0]
                 return (v, 'u', list(es) + log, tape[1:]), es
             return None
-        pk, pl, pr = self.row(parent)[:3]
+        pk, pl, pr = self.node(parent)[:3]
         if pk == 3 and pl == i and tape:
             if tape[0] is None:  # rule 5
                 return (parent, 'u', log, tape[1:]), []
@@ -237,7 +248,7 @@ class Machine:
         return made and (turned(made[0]), made[1])
 
     def answers(self, s):
-        return s[1] == 'd' and self.row(s[0])[0] == 2 and not s[3]
+        return s[1] == 'd' and self.node(s[0])[0] == 2 and not s[3]
 
 
 def turned(s):
@@ -308,10 +319,10 @@ START = (1, 'd', [], [])
 # ---- tables of any words, and their texts
 
 def accepted(w, n):
-    """Number 7 does not apply: the rows are those of the one term that their kinds and binders allow."""
+    """The nodes where number 7 does not apply: they are those of the one term that their kinds and binders allow."""
     if not 1 <= n <= 3000 or len(w) < 5 * n:
         return None
-    table = [w[5 * i:5 * i + 5] for i in range(n)]
+    table = nodes_in(w, n)
     work, at, expected = [(0, 0, frozenset())], 0, []
     while work:
         item = work.pop()
@@ -345,7 +356,7 @@ def accepted(w, n):
 
 
 def named_tree(table):
-    """The tree of accepted rows, each binder named v and its node. A node's parts have greater numbers, so the last row comes first."""
+    """The tree of accepted nodes, each binder named v and its node. A node's parts have greater numbers, so the last node comes first."""
     trees = {}
     for i in range(len(table), 0, -1):
         kind, left, right = table[i - 1][:3]
@@ -379,7 +390,7 @@ def spelled(tree):
 
 
 def numbered(table):
-    """The text of accepted rows without names: they stand in the order of its parts. A variable's number is how many abstractions are between it and its binder."""
+    """The text of accepted nodes without names: they stand in the order of its parts. A variable's number is how many abstractions are between it and its binder."""
     parts = []
     for kind, left, _, parent, _ in table:
         number = 0
@@ -431,7 +442,7 @@ def entries(m, ws, with_bullets):
 
     def one():
         nonlocal pos
-        if pos >= len(ws) or m.row(ws[pos])[0] != 1:
+        if pos >= len(ws) or m.node(ws[pos])[0] != 1:
             return None
         v = ws[pos]
         pos += 1
@@ -573,7 +584,7 @@ def winder(text):
     n, number, table = read(text, 15000)
     if number:
         return ['refused %d' % number]
-    m, s, lines = Machine([table[5 * i:5 * i + 5] for i in range(n)]), START, []
+    m, s, lines = Machine(nodes_in(table, n)), START, []
     for p in range(10001):
         lines.append(' '.join(['%d' % p, '%d' % s[0], s[1], 'L'] + ['%d' % x for x in words(s[2])] + ['T'] + ['%d' % x for x in words(s[3])]))
         s2, _, steps, stop, _, _ = wind(m, s, p, 1 if p < 10000 else 0, 1024, 1024, False)

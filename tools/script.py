@@ -1,10 +1,11 @@
 """The script of cases (crates/cases/stdin, which says its commands) on reference.py's reading of documents 01 and 02: what the program `cases` must print."""
 from itertools import groupby
 
-from reference import (GREATEST, START, Machine, Session, accepted, back_to, call, forward_to, go_to, lay, open_session, read, read_numbers, to_names,
-                       to_numbers, top, wind, words, write, write_numbers)
+from reference import (GREATEST, START, Machine, Session, accepted, back_to, call, forward_to, go_to, in_columns, lay, open_session, read, read_numbers,
+                       to_names, to_numbers, top, wind, words, write, write_numbers)
 
 LONGEST_SCRIPT, LONGEST_TEXT, LONGEST_BUFFER, LONGEST_WRITTEN = 65535, 3001, 3010, 3000
+GREATEST_IN_TABLE = 65535
 
 
 class Wrong(Exception):
@@ -12,17 +13,17 @@ class Wrong(Exception):
 
 
 class Slice:
-    """A lent slice: its words, how many there may be, and how many of them a call gets."""
-    def __init__(self, capacity):
-        self.capacity, self.words, self.given = capacity, [], 0
+    """A lent slice: its words, how many there may be and how great each, and how many of them a call gets."""
+    def __init__(self, capacity, greatest=GREATEST):
+        self.capacity, self.greatest, self.words, self.given = capacity, greatest, [], 0
 
     def fill(self, size, word):
-        if size > self.capacity:
+        if size > self.capacity or word > self.greatest:
             raise Wrong
         self.words, self.given = [word] * size, size
 
     def set(self, i, word):
-        if i >= len(self.words):
+        if i >= len(self.words) or word > self.greatest:
             raise Wrong
         self.words[i] = word
 
@@ -53,7 +54,7 @@ class Desk:
     """What the next call gets, and a command for each word of the script."""
     def __init__(self):
         self.text, self.n, self.session = b'', 0, Session()
-        self.table, self.log, self.tape = Slice(15010), Slice(16385), Slice(16385)
+        self.table, self.log, self.tape = Slice(15010, GREATEST_IN_TABLE), Slice(16385), Slice(16385)
 
     # the text, n and the session
 
@@ -76,8 +77,8 @@ class Desk:
     def do_tower(self, deep):
         if len(self.table.words) < 5 * (deep + 1):
             raise Wrong
-        rows = [w for i in range(deep) for w in (2, i + 2, 0, i, 0)] + [1, 1, 0, deep, 0]
-        self.table.words = rows + [0] * (len(self.table.words) - len(rows))
+        words = in_columns([(2, i + 2, 0, i, 0) for i in range(deep)] + [(1, 1, 0, deep, 0)])
+        self.table.words = words + [0] * (len(self.table.words) - len(words))
 
     # the calls, each answering the line to print after its name
 
@@ -223,10 +224,10 @@ def agrees(states, session, log, tape):
 
 def plain_states(table, n, count, log_room, tape_room):
     """The states from the start on, as far as the stops allow, at most so many steps."""
-    rows = accepted(table, n)
-    if rows is None:
+    nodes = accepted(table, n)
+    if nodes is None:
         return []
-    m, states = Machine(rows), [START]
+    m, states = Machine(nodes), [START]
     while len(states) <= count:
         s, _, steps, _, _, _ = wind(m, states[-1], len(states) - 1, 1, log_room, tape_room, False)
         if steps == 0:

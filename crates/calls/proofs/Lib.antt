@@ -23,3 +23,4 @@ pub mod Carried
 pub mod Third
 pub mod RoundTrip
 pub mod BackTrip
+pub mod ByRows

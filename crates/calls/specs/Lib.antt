@@ -13,3 +13,4 @@ pub mod Visited
 pub mod Moves
 pub mod Demand
 pub mod Trips
+pub mod ByRows

@@ -1,6 +1,6 @@
 -- T1 to T12, the example's arities and its states are what document 01 says: both lists compute to the same.
 use mathlib.Core.Path.{_≡_, refl}
-use Rattle.term.specs.Table.{rowsOf, tableOf, tableIn, kindOf, placeUnder}
+use Rattle.term.specs.Table.{columnOf, tableOf, tableIn, kindOf, placeUnder}
 use Rattle.term.specs.Accepted.{partBy, partAt, accepted}
 use Rattle.text.specs.Bytes.{classOf}
 use Rattle.text.specs.Tokens.{pieces}
@@ -20,7 +20,7 @@ use Rattle.cases.specs.Cases.{exampleText, identityText, openText, examp
 
 pub cases-hold : cases example ≡ results
 unfolding exampleText identityText openText example exampleTable identity fresh afterwards stranded states cases sessionMade leaf stoodAt results
-    rowsOf tableOf tableIn kindOf placeUnder partBy partAt accepted
+    columnOf tableOf tableIn kindOf placeUnder partBy partAt accepted
     classOf pieces phraseAt parse indexOf nameless meant readerNumber readOf
     goDown goUp stepBy afterFrom carriedDown carriedUp carriedFrom slice putOnLog readLog putOnTape readTape allZero
     stopBefore digitsIn digits weight wind wellFormed stateIn lentNumber callNumber openOf windOf goToOf

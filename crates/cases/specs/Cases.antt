@@ -33,19 +33,17 @@ openText = 120 ∷ []
 
 -- ---- the calls: on slices of so many words, which hold 9s before open
 
--- the example as T1 reads it: document 01's table, and a word after it
+-- the example as T1 reads it: document 01's table in the columns kind, left, right, parent and level, and a word after it. Document 02, change 8: "T1 lists the columns from now on."
 unfoldable pub example : Read
 example = record {
   n = 7;
   refusal = 0;
   table =
-      3 ∷ 2 ∷ 6 ∷ 0 ∷ 0
-      ∷ 2 ∷ 3 ∷ 0 ∷ 1 ∷ 0
-      ∷ 3 ∷ 4 ∷ 5 ∷ 2 ∷ 0
-      ∷ 1 ∷ 2 ∷ 0 ∷ 3 ∷ 0
-      ∷ 1 ∷ 2 ∷ 0 ∷ 3 ∷ 1
-      ∷ 2 ∷ 7 ∷ 0 ∷ 1 ∷ 1
-      ∷ 1 ∷ 6 ∷ 0 ∷ 6 ∷ 1
+      3 ∷ 2 ∷ 3 ∷ 1 ∷ 1 ∷ 2 ∷ 1
+      ∷ 2 ∷ 3 ∷ 4 ∷ 2 ∷ 2 ∷ 7 ∷ 6
+      ∷ 6 ∷ 0 ∷ 5 ∷ 0 ∷ 0 ∷ 0 ∷ 0
+      ∷ 0 ∷ 1 ∷ 2 ∷ 3 ∷ 3 ∷ 1 ∷ 6
+      ∷ 0 ∷ 0 ∷ 0 ∷ 0 ∷ 1 ∷ 1 ∷ 1
       ∷ 9 ∷ [];
 }
 

@@ -42,12 +42,13 @@ pub(crate) enum TextCall {
     ConvertFirst,
 }
 
-// What becomes of a slice: so many words, all the same; one word; how many words a call gets; the rows of a tower.
+// What becomes of a slice: so many words, all the same; one word; how many words a call gets; the columns of a tower; or nothing.
 pub(crate) enum Change {
     Fill,
     Set,
     Lend,
     Tower,
+    Nothing,
 }
 
 // A call on a session, with the node and the direction of the visit that it looks for, if it looks for one.

@@ -105,5 +105,6 @@ pub(crate) fn resized(d: Desk, slice: u32, what: Change, count: usize) -> Desk {
         Change::Lend => with_slice(d, slice, size_on(d, slice), count),
         Change::Set => d,
         Change::Tower => d,
+        Change::Nothing => d,
     }
 }

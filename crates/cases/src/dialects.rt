@@ -4,7 +4,7 @@ use reader::Reading;
 use writer::Written;
 
 // Reads a text of a dialect.
-pub(crate) fn read_in(which: Dialect, text: &[u8], table: &mut [u32]) -> Reading {
+pub(crate) fn read_in(which: Dialect, text: &[u8], table: &mut [u16]) -> Reading {
     match which {
         Dialect::Names => reader::read(text, table),
         Dialect::Numbers => reader::read_numbers(text, table),
@@ -12,7 +12,7 @@ pub(crate) fn read_in(which: Dialect, text: &[u8], table: &mut [u32]) -> Reading
 }
 
 // Writes a table's text in a dialect.
-pub(crate) fn write_in(which: Dialect, table: &[u32], n: u32, text: &mut [u8]) -> Written {
+pub(crate) fn write_in(which: Dialect, table: &[u16], n: u32, text: &mut [u8]) -> Written {
     match which {
         Dialect::Names => writer::write(table, n, text),
         Dialect::Numbers => writer::write_numbers(table, n, text),

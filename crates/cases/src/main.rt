@@ -23,6 +23,7 @@ use desk::with_nodes;
 use desk::with_session;
 use desk::with_text;
 use lent::changed;
+use lent::table_changed;
 use moves::made;
 use session::Dir;
 use session::Session;
@@ -64,7 +65,7 @@ fn plainly(line: &[u8], at: usize, row: usize, d: Desk) -> Desk {
     }
 }
 
-fn accept_shown(line: &[u8], d: Desk, table: &[u32]) -> Desk {
+fn accept_shown(line: &[u8], d: Desk, table: &[u16]) -> Desk {
     let k = least(d.table, table.len());
     show_name(line, 1);
     show_word(term::accepts(&table[0..k], d.n) as u32);
@@ -77,7 +78,7 @@ fn on_session(
     line: &[u8],
     row: usize,
     d: Desk,
-    table: &[u32],
+    table: &[u16],
     log: &mut [u32],
     tape: &mut [u32],
 ) -> Desk {
@@ -97,7 +98,7 @@ fn obey(
     script: &[u8],
     at: usize,
     d: Desk,
-    table: &mut [u32],
+    table: &mut [u16],
     log: &mut [u32],
     tape: &mut [u32],
 ) -> Desk {
@@ -105,7 +106,7 @@ fn obey(
     let row = row_of(line);
     match topic_of(row) {
         Topic::Plain => plainly(line, at, row, d),
-        Topic::Table => changed(line, row, 0, table, d),
+        Topic::Table => table_changed(line, row, table, d),
         Topic::Log => changed(line, row, 1, log, d),
         Topic::Tape => changed(line, row, 2, tape, d),
         Topic::OnText => on_text(script, line, row, d, table),
@@ -116,7 +117,7 @@ fn obey(
     }
 }
 
-fn run(script: &[u8], table: &mut [u32], log: &mut [u32], tape: &mut [u32]) {
+fn run(script: &[u8], table: &mut [u16], log: &mut [u32], tape: &mut [u32]) {
     let mut d = cleared(script.len());
     let mut at = 0;
     while at < script.len() {
@@ -133,7 +134,7 @@ fn main() {
         show_wrong(b"the script is too long");
         return;
     }
-    let mut table = [0u32; 15010];
+    let mut table = [0u16; 15010];
     let mut log = [0u32; 16385];
     let mut tape = [0u32; 16385];
     run(&script[..got], &mut table, &mut log, &mut tape);

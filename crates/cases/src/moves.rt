@@ -45,7 +45,7 @@ fn call_made(
     which: SessionCall,
     n: u32,
     s: Session,
-    table: &[u32],
+    table: &[u16],
     log: &mut [u32],
     tape: &mut [u32],
     count: u32,
@@ -61,7 +61,7 @@ fn call_made(
 }
 
 // The session opened afresh and wound to a position in one call.
-fn afresh(n: u32, position: u32, table: &[u32], log: &mut [u32], tape: &mut [u32]) -> Session {
+fn afresh(n: u32, position: u32, table: &[u16], log: &mut [u32], tape: &mut [u32]) -> Session {
     let opening = open(table, n, log, tape);
     let first = opening.session;
     let out = forward(table, n, first, log, tape, position);
@@ -84,7 +84,7 @@ fn same_words(a: &[u32], b: &[u32]) -> bool {
 }
 
 // Where states are compared, on slices of 64 words, 1 if the session is the one opened afresh on others and wound to its position in one call, word for word.
-fn agrees(compared: bool, n: u32, s: Session, table: &[u32], log: &[u32], tape: &[u32]) -> u32 {
+fn agrees(compared: bool, n: u32, s: Session, table: &[u16], log: &[u32], tape: &[u32]) -> u32 {
     if !compared {
         return 0;
     }
@@ -111,7 +111,7 @@ fn how_often(walks: bool, count: u32) -> u64 {
 }
 
 // Asks for the top entry of log or tape, and shows the answer. Its part may be of either: one lifetime for both.
-fn top_made<'a>(row: usize, d: Desk, table: &[u32], log: &'a [u32], tape: &'a [u32]) {
+fn top_made<'a>(row: usize, d: Desk, table: &[u16], log: &'a [u32], tape: &'a [u32]) {
     let s = d.session;
     // Neither 0 nor a refusal, so that a number left unwritten shows.
     let mut refusal: u32 = 99;
@@ -125,7 +125,7 @@ pub(crate) fn made(
     line: &[u8],
     row: usize,
     desk: Desk,
-    table: &[u32],
+    table: &[u16],
     log: &mut [u32],
     tape: &mut [u32],
 ) -> Desk {

@@ -36,8 +36,20 @@ pub(crate) fn show_word(n: u32) {
     show_number(b" ", n);
 }
 
-// A word so many times in a row, if at all: each time, or, where these are more than three, once with how many.
-fn show_run(word: u32, times: u32) {
+// A word that comes so many times in a row.
+struct Run {
+    word: u32,
+    times: u32,
+}
+
+fn no_run() -> Run {
+    Run { word: 0, times: 0 }
+}
+
+// The word, if at all: each time, or, where these are more than three, once with how many.
+fn show_run(run: Run) {
+    let word = run.word;
+    let times = run.times;
     if 0 < times {
         show_word(word);
     }
@@ -53,22 +65,58 @@ fn show_run(word: u32, times: u32) {
     }
 }
 
-// Every word, in order.
+// The run with one word more. Another word than its own ends it: it is shown, and the next one begins.
+fn with_word(run: Run, word: u32) -> Run {
+    if word == run.word {
+        return Run {
+            word: word,
+            times: std::num::wrapping_add_u32(run.times, 1),
+        };
+    }
+    show_run(run);
+    Run {
+        word: word,
+        times: 1,
+    }
+}
+
+// Every word, in order; then the same of a table's words and of bytes.
 pub(crate) fn show_words(words: &[u32]) {
-    let mut last: u32 = 0;
-    let mut times: u32 = 0;
+    let mut run = no_run();
     let mut i = 0;
     while i < words.len() {
-        let word = words[i];
-        if word != last {
-            show_run(last, times);
-            times = 0;
-        }
-        last = word;
-        times = std::num::wrapping_add_u32(times, 1);
+        run = with_word(run, words[i]);
         i += 1;
     }
-    show_run(last, times);
+    show_run(run);
+}
+
+pub(crate) fn wide(word: u16) -> u32 {
+    word as u32
+}
+
+fn show_table_words(words: &[u16]) {
+    let mut run = no_run();
+    let mut i = 0;
+    while i < words.len() {
+        run = with_word(run, wide(words[i]));
+        i += 1;
+    }
+    show_run(run);
+}
+
+fn wide_byte(b: u8) -> u32 {
+    b as u32
+}
+
+pub(crate) fn show_bytes(bytes: &[u8]) {
+    let mut run = no_run();
+    let mut i = 0;
+    while i < bytes.len() {
+        run = with_word(run, wide_byte(bytes[i]));
+        i += 1;
+    }
+    show_run(run);
 }
 
 // A direction's place among the letters of `show_session`.
@@ -166,4 +214,11 @@ pub(crate) fn show_slice(label: &[u8], words: &[u32], size: usize) {
     let k = least(size, words.len());
     show(label);
     show_words(&words[0..k]);
+}
+
+// The table's words as they lie in its slice, column after column.
+pub(crate) fn show_table(table: &[u16], size: usize) {
+    let k = least(size, table.len());
+    show(b" table");
+    show_table_words(&table[0..k]);
 }

@@ -5,35 +5,13 @@ use crate::desk::Desk;
 use crate::dialects::convert_to;
 use crate::dialects::write_in;
 use crate::show::show;
+use crate::show::show_bytes;
 use crate::show::show_name;
 use crate::show::show_number;
-use crate::show::show_words;
 use crate::show::show_wrong;
 use crate::words::least;
 use crate::words::number_at;
 use writer::Written;
-
-fn wide(b: u8) -> u32 {
-    b as u32
-}
-
-// Bytes as numbers, as many as there is room for.
-fn widen(bytes: &[u8], numbers: &mut [u32]) {
-    let k = least(bytes.len(), numbers.len());
-    let mut i = 0;
-    while i < k {
-        numbers[i] = wide(bytes[i]);
-        i += 1;
-    }
-}
-
-// Bytes as numbers, shown as a slice's words are.
-fn show_bytes(bytes: &[u8]) {
-    let mut numbers = [0u32; 3010];
-    widen(bytes, &mut numbers);
-    let k = least(bytes.len(), 3010);
-    show_words(&numbers[0..k]);
-}
 
 // What a call answered that was lent these bytes: the numbers, the text as it is, and the bytes after it as numbers.
 fn show_written(r: Written, bytes: &[u8]) {
@@ -48,7 +26,7 @@ fn show_written(r: Written, bytes: &[u8]) {
 }
 
 // Writes a table's text into lent bytes, and shows the answer.
-fn write_lent(which: Dialect, table: &[u32], n: u32, text: &mut [u8]) {
+fn write_lent(which: Dialect, table: &[u16], n: u32, text: &mut [u8]) {
     let r = write_in(which, table, n, text);
     show_written(r, &text[..]);
 }
@@ -80,7 +58,7 @@ fn lent_byte(line: &[u8]) -> u8 {
 }
 
 // Writes the text of the lent table into as many bytes as the line says, and shows the answer and the bytes; the desk stays as it was.
-pub(crate) fn write_shown(line: &[u8], which: Dialect, d: Desk, table: &[u32]) -> Desk {
+pub(crate) fn write_shown(line: &[u8], which: Dialect, d: Desk, table: &[u16]) -> Desk {
     if !lends_bytes(line) {
         show_wrong(line);
         return d;

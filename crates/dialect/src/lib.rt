@@ -11,7 +11,7 @@ const OWN_TABLE: usize = 15000;
 pub fn to_numbers(text: &[u8], out: &mut [u8]) -> Written
     ensures { λ r. ⌜ writeMeant r (now (out .exit)) ≡ toNumbersOf (now (text .entry)) (now (out .entry)) ⌝ }
 {
-    let mut table = [0u32; OWN_TABLE];
+    let mut table = [0u16; OWN_TABLE];
     let reading = reader::read(text, &mut table);
     if reading.refusal != 0 {
         return refused(reading.refusal);
@@ -23,7 +23,7 @@ pub fn to_numbers(text: &[u8], out: &mut [u8]) -> Written
 pub fn to_names(text: &[u8], out: &mut [u8]) -> Written
     ensures { λ r. ⌜ writeMeant r (now (out .exit)) ≡ toNamesOf (now (text .entry)) (now (out .entry)) ⌝ }
 {
-    let mut table = [0u32; OWN_TABLE];
+    let mut table = [0u16; OWN_TABLE];
     let reading = reader::read_numbers(text, &mut table);
     if reading.refusal != 0 {
         return refused(reading.refusal);

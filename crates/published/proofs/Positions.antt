@@ -9,9 +9,9 @@ use Rattle.term.specs.Table.{Table, tableIn, arity, Kind, variable, abstraction
 use Rattle.term.specs.Rows.{RowsIn}
 use Rattle.term.specs.Accepted.{Accepted}
 use Rattle.term.specs.Facts.{Facts}
-use Rattle.term.proofs.Rows.{root-level, table-stands}
+use Rattle.term.proofs.Rows.{root-level}
 use Rattle.term.proofs.Facts.{accepted-facts}
-use Rattle.term.proofs.Accepted.{term-size}
+use Rattle.term.proofs.Accepted.{term-size, accepted-rows}
 use Rattle.published.specs.Figure.{Context, ⟨·⟩, lambda, left, right, level, _⟨_⟩, _⟪_⟫, binders, boundAbove}
 use Rattle.published.specs.Represents.{nodeFrom}
 use Rattle.published.proofs.Contexts.{nodeOf, plug-compose, node-compose, level-compose, closed-inside}
@@ -26,7 +26,7 @@ pub record IsTable (T : Table) (t : Term) : Type 0 where
 
 pub accepted-table : (w : List ℕ) (n : ℕ) (A : Accepted w n) → IsTable (tableIn w n) (A .term)
 unfolding tableIn
-accepted-table w n A = record { facts = accepted-facts w n A; rows = table-stands w n (A .term) (A .same); closed = A .closed; all = term-size w n A }
+accepted-table w n A = record { facts = accepted-facts w n A; rows = accepted-rows w n A; closed = A .closed; all = term-size w n A }
 
 -- The binders around the hole, its parent and its level, where those of the whole are bs, p and v, and the whole is node i.
 abbrev scope : List ℕ → ℕ → Context → List ℕ

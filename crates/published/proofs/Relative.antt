@@ -3,7 +3,7 @@ use mathlib.Core.Path.{_≡_, refl}
 use mathlib.Core.Option.{none}
 use mathlib.Core.List.{[], _∷_}
 use Rattle.term.specs.Term.{Term, var, lam, app, size}
-use Rattle.term.specs.Table.{rowsOf, tableOf, tableIn, kindOf}
+use Rattle.term.specs.Table.{columnOf, tableOf, tableIn, kindOf}
 use Rattle.machine.specs.Entries as Plain
 use Rattle.machine.specs.Entries.{entry}
 use Rattle.machine.specs.Machine as Machine
@@ -24,7 +24,7 @@ abbrev P : State
 P = state (lam (var 0)) (left ⟨·⟩ (lam (var 0))) ε (held (logged (var 0) (lambda ⟨·⟩) ε) ∷ []) down
 
 pub transition-no-step : Represents t s P × ((Q : State) × Transition P Q) × (step (tableIn (tableOf t) (size t)) s ≡ none)
-unfolding rowsOf tableOf tableIn kindOf goDown stepBy
+unfolding columnOf tableOf tableIn kindOf goDown stepBy
 transition-no-step = (
   record {
     position = record { whole = refl; number = refl };

@@ -70,15 +70,16 @@ module _ (code : List ℕ) (n k : ℕ) (o : Option Term) (c : InCode code n o) (
     pub short-answer : length table < 5 * n → answerFor k o table ≡ refused 6 table
     short-answer h = let s = size-is in rw (closed-term .1, lt-ltb (length table) (5 * size (closed-term .0)) (omega arith))
 
-    pub whole : 5 * n ≤ length table → (u : Term) × Whole code (length table) u
+    pub whole : 5 * n ≤ length table → (u : Term) × Whole code n (length table) u
     whole h = let s = size-is in (
       closed-term .0,
       record {
         rest = c .rest;
         stands = c .stands ∙ ap (λ ws. ws ++ c .rest) (coded .0);
         closed = coded .1;
-        few-nodes = omega (arith, c .few);
-        room = omega arith;
+        all = s;
+        few-nodes = c .few;
+        room = h;
       },
     )
 

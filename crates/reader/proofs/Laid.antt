@@ -1,28 +1,21 @@
--- The rows of a part, from the rows of the parts below it.
-use mathlib.Core.Path.{_≡_, refl, sym, ap, _∙_, subst⁻¹}
-use mathlib.Core.List.{List, [], _∷_, _++_}
+-- The columns of a part, from the columns of the parts below it.
+use mathlib.Core.Path.{_≡_, refl, sym, ap, ap₂, _∙_, subst⁻¹}
+use mathlib.Core.List.{List, [], _++_}
 use Prim.Native.Nat.{ℕ, zero, suc, _+_, _-_, _*_, _≤_, _<_}
-use native.Mathlib.Nat.{suc-add, zero-add}
+use native.Mathlib.Nat.{suc-add}
 use native.Mathlib.Numerals.{add-one}
 use native.Mathlib.Omega.{arith}
 use lib.ListN.{length, getD, set, drop, length-set}
-use lib.Seq.{sets, sets-eq, length-sets}
+use lib.Seq.{sets-eq}
 use Rattle.term.specs.Term.{Term, lam, size}
-use Rattle.term.specs.Table.{row, rowsOf, tableOf}
+use Rattle.term.specs.Table.{row, columnOf, columnsOf, tableOf}
 use Rattle.term.specs.Accepted.{mostNodes}
 use Rattle.term.specs.Walk.{bindersIn}
-use Rattle.term.proofs.Rows.{rows-length}
+use Rattle.term.proofs.Columns.{Long, columns-long, table-length}
 use Rattle.term.proofs.Scope.{binders-under, binders-push}
-use Rattle.term.proofs.Stores.{run-on}
-use Rattle.reader.specs.Layout.{Layable, Laid, RowsLaid, Whole}
-use Rattle.reader.proofs.Moved.{set-sets-before}
+use Rattle.reader.specs.Layout.{columnsPut, eachAlone, Layable, Laid, ColumnsLaid, Whole}
+use Rattle.reader.proofs.Beside.{beside, Beside, put-beside, beside-long, put-length, put-on, put-before, put-whole}
 use Rattle.reader.proofs.Parts.{layable-as, body-layable, Parts, parts-layable, index-layable}
-
--- a run of stores before another, made after it
-sets-before : (o : List ℕ) (i j : ℕ) (vs ws : List ℕ) → j ≡ i + length vs → sets (sets o j ws) i vs ≡ sets o i (vs ++ ws)
-sets-before o i j [] ws e = let h : j ≡ i = omega arith in rw h
-sets-before o i j (v ∷ vs) ws e =
-    ap (λ l. sets l (suc i) vs) (set-sets-before o j ws i v (omega arith)) ∙ sets-before (set o i v) (suc i) j vs ws (omega arith)
 
 -- The binders around: each stands at its place, and those around one more are kept where all are.
 binder-at : (scope : List ℕ) (d x k : ℕ) → x < d → k + (x + 1) ≡ d → getD (bindersIn scope d) x 0 ≡ getD scope k 0
@@ -33,24 +26,29 @@ binder-at scope (suc d) (suc x) k h e = binder-at scope d x k (omega arith) (ome
 binders-outer : (scope scope′ : List ℕ) (d : ℕ) → bindersIn scope (d + 1) ≡ bindersIn scope′ (d + 1) → bindersIn scope d ≡ bindersIn scope′ d
 binders-outer scope scope′ d e = ap (drop 1) (rw add-one at e)
 
-module _ (code : List ℕ) (before p v d : ℕ) (scope table : List ℕ) where
+-- the words of a node beside those of what is below it
+own-long : (k l r p v : ℕ) → Long 1 (eachAlone (row k l r p v))
+own-long k l r p v = (refl, (refl, (refl, (refl, (refl, tt)))))
+
+module _ (code : List ℕ) (n before p v d : ℕ) (scope table : List ℕ) where
   abbrev codeWord : ℕ
   codeWord = getD code before 0
 
-  -- an abstraction: its row, then its body's
-  pub lam-laid : (r : ℕ) (table₁ scope′ table′ : List ℕ) → codeWord ≡ 1 → table₁ ≡ sets table (5 * before) (row 2 (before + 1 + 1) 0 p v)
-      → RowsLaid code (before + 1) (before + 1) v (d + 1) (set scope d (before + 1)) table₁ r scope′ table′
-      → RowsLaid code before p v d scope table r scope′ table′
-  unfolding rowsOf
-  lam-laid r table₁ scope′ table′ e w lays t ready = subst⁻¹ (Laid before p v d scope table r scope′ table′) (x .1) (record {
+  -- an abstraction: its words, then its body's
+  pub lam-laid : (r : ℕ) (table₁ scope′ table′ : List ℕ) → codeWord ≡ 1 → table₁ ≡ columnsPut n table before (eachAlone (row 2 (before + 1 + 1) 0 p v))
+      → ColumnsLaid code n (before + 1) (before + 1) v (d + 1) (set scope d (before + 1)) table₁ r scope′ table′
+      → ColumnsLaid code n before p v d scope table r scope′ table′
+  unfolding columnOf
+  lam-laid r table₁ scope′ table′ e w lays t ready = subst⁻¹ (Laid n before p v d scope table r scope′ table′) (x .1) (record {
     next = omega (arith, body .next);
     kept = binders-outer scope′ scope₁ d (body .kept) ∙ binders-under scope d d (before + 1) (omega arith);
-    wrote = run-on table table₁ table′ (5 * before) (5 * (before + 1)) (row 2 (before + 1 + 1) 0 p v) below w (omega arith) (body .wrote)
+    wrote = body .wrote ∙ ap (λ l. columnsPut n l (before + 1) below) w
+        ∙ put-on n table before 1 (size b) own below (put-beside 1 (size b) own below (own-long 2 (before + 1 + 1) 0 p v) (columns-long b _ _ _ _) refl) (omega (arith, x .2 .among-them))
         ∙ simp (add-one, binders-push scope d (suc before) room);
   })
     where
-      x : (b : Term) × (t ≡ lam b) × Layable code (before + 1) (d + 1) (length scope) (length table) b
-      x = body-layable code before d (length scope) (length table) t ready e
+      x : (b : Term) × (t ≡ lam b) × Layable code n (before + 1) (d + 1) (length scope) (length table) b
+      x = body-layable code n before d (length scope) (length table) t ready e
 
       b : Term
       b = x .0
@@ -61,45 +59,49 @@ module _ (code : List ℕ) (before p v d : ℕ) (scope table : List ℕ) where
       room : d < length scope
       room = omega (arith, x .2 .scope-room)
 
-      body : Laid (before + 1) (before + 1) v (d + 1) scope₁ table₁ r scope′ table′ b
-      body = lays b (layable-as (simp length-set) (sym (ap length w ∙ simp length-sets)) (x .2))
+      own : List (List ℕ)
+      own = eachAlone (row 2 (before + 1 + 1) 0 p v)
 
-      below : List ℕ
-      below = rowsOf b (bindersIn scope₁ (d + 1)) (suc (before + 1)) (before + 1) v
+      body : Laid n (before + 1) (before + 1) v (d + 1) scope₁ table₁ r scope′ table′ b
+      body = lays b (layable-as (simp length-set) (sym (ap length w ∙ put-length n table before own)) (x .2))
 
-  -- a variable: its row alone
+      below : List (List ℕ)
+      below = columnsOf b (bindersIn scope₁ (d + 1)) (suc (before + 1)) (before + 1) v
+
+  -- a variable: its words alone
   pub var-laid : (table′ : List ℕ) → (codeWord ≡ 1 → ⊥) → (codeWord ≡ 2 → ⊥)
-      → table′ ≡ sets table (5 * before) (row 1 (getD scope (d + 2 - codeWord) 0) 0 p v)
-      → RowsLaid code before p v d scope table (before + 1) scope table′
-  unfolding rowsOf
-  var-laid table′ n m w t ready =
-      let x = index-layable code before d (length scope) (length table) t ready n m in
+      → table′ ≡ columnsPut n table before (eachAlone (row 1 (getD scope (d + 2 - codeWord) 0) 0 p v))
+      → ColumnsLaid code n before p v d scope table (before + 1) scope table′
+  unfolding columnOf
+  var-laid table′ h m w t ready =
+      let x = index-layable code n before d (length scope) (length table) t ready h m in
       let place : d + 2 - codeWord + (x .0 + 1) ≡ d = omega (arith, x .2, x .3) in
-      subst⁻¹ (Laid before p v d scope table (before + 1) scope table′) (x .1) (record {
+      subst⁻¹ (Laid n before p v d scope table (before + 1) scope table′) (x .1) (record {
         next = refl;
         kept = refl;
-        wrote = w ∙ ap (λ k. sets table (5 * before) (row 1 k 0 p v)) (sym (binder-at scope d (x .0) (d + 2 - codeWord) (x .3) place));
+        wrote = w ∙ ap (λ k. columnsPut n table before (eachAlone (row 1 k 0 p v))) (sym (binder-at scope d (x .0) (d + 2 - codeWord) (x .3) place));
       })
 
-  -- an application: its function's rows, its argument's, and then its own
+  -- an application: its function's words, its argument's, and then its own
   pub app-laid : (next r : ℕ) (scope₁ table₁ scope₂ table₂ table′ : List ℕ) → codeWord ≡ 2
       → length scope₁ ≡ length scope → length table₁ ≡ length table
-      → RowsLaid code (before + 1) (before + 1) v d scope table next scope₁ table₁
-      → RowsLaid code next (before + 1) (v + 1) d scope₁ table₁ r scope₂ table₂
-      → table′ ≡ sets table₂ (5 * before) (row 3 (before + 1 + 1) (next + 1) p v)
-      → RowsLaid code before p v d scope table r scope₂ table′
-  unfolding rowsOf
-  app-laid next r scope₁ table₁ scope₂ table₂ table′ e ls lt function argument w t ready = subst⁻¹ (Laid before p v d scope table r scope₂ table′) (x .is-app) (record {
+      → ColumnsLaid code n (before + 1) (before + 1) v d scope table next scope₁ table₁
+      → ColumnsLaid code n next (before + 1) (v + 1) d scope₁ table₁ r scope₂ table₂
+      → table′ ≡ columnsPut n table₂ before (eachAlone (row 3 (before + 1 + 1) (next + 1) p v))
+      → ColumnsLaid code n before p v d scope table r scope₂ table′
+  unfolding columnOf
+  app-laid next r scope₁ table₁ scope₂ table₂ table′ e ls lt function argument w t ready = subst⁻¹ (Laid n before p v d scope table r scope₂ table′) (x .is-app) (record {
     next = omega (arith, left .next, right .next);
     kept = right .kept ∙ left .kept;
     wrote = w
-        ∙ ap (λ l. sets l (5 * before) own) (run-on table table₁ table₂ (5 * (before + 1)) (5 * next) fs gs (left .wrote) (omega (arith, left .next, length-fs)) (right .wrote))
-        ∙ sets-before table (5 * before) (5 * (before + 1)) own (fs ++ gs) (omega arith)
+        ∙ ap (λ l. columnsPut n l before own)
+        (right .wrote ∙ ap₂ (λ l i. columnsPut n l i gs) (left .wrote) (left .next) ∙ put-on n table (before + 1) (size f) (size a) fs gs parts (omega (arith, few)))
+        ∙ put-before n table before 1 (size f + size a) own (beside fs gs) (put-beside 1 (size f + size a) own (beside fs gs) (own-long 3 (before + 1 + 1) (next + 1) p v) (beside-long (size f) (size a) fs gs parts) refl) (omega (arith, few))
         ∙ rw (left .kept, left .next) (simp (add-one, suc-add));
   })
     where
-      x : Parts code before d (length scope) (length table) t
-      x = parts-layable code before d (length scope) (length table) t ready e
+      x : Parts code n before d (length scope) (length table) t
+      x = parts-layable code n before d (length scope) (length table) t ready e
 
       f : Term
       f = x .function
@@ -107,38 +109,45 @@ module _ (code : List ℕ) (before p v d : ℕ) (scope table : List ℕ) where
       a : Term
       a = x .argument
 
-      left : Laid (before + 1) (before + 1) v d scope table next scope₁ table₁ f
+      left : Laid n (before + 1) (before + 1) v d scope table next scope₁ table₁ f
       left = function f (x .function-layable)
 
-      right : Laid next (before + 1) (v + 1) d scope₁ table₁ r scope₂ table₂ a
+      right : Laid n next (before + 1) (v + 1) d scope₁ table₁ r scope₂ table₂ a
       right = argument a (layable-as (sym ls) (sym lt) (x .argument-layable next (left .next)))
 
-      own : List ℕ
-      own = row 3 (before + 1 + 1) (next + 1) p v
+      few : 1 + (size f + size a) ≤ n
+      few = omega (arith, left .next, x .argument-layable next (left .next) .among-them)
 
-      fs : List ℕ
-      fs = rowsOf f (bindersIn scope d) (suc (before + 1)) (before + 1) v
+      own : List (List ℕ)
+      own = eachAlone (row 3 (before + 1 + 1) (next + 1) p v)
 
-      length-fs : length fs ≡ 5 * size f
-      length-fs = rows-length f (bindersIn scope d) (suc (before + 1)) (before + 1) v
+      fs : List (List ℕ)
+      fs = columnsOf f (bindersIn scope d) (suc (before + 1)) (before + 1) v
 
-      gs : List ℕ
-      gs = rowsOf a (bindersIn scope₁ d) (suc next) (before + 1) (v + 1)
+      gs : List (List ℕ)
+      gs = columnsOf a (bindersIn scope₁ d) (suc next) (before + 1) (v + 1)
+
+      parts : Beside (size f) (size a) fs gs
+      parts = put-beside (size f) (size a) fs gs (columns-long f _ _ _ _) (columns-long a _ _ _ _) refl
 
 -- A whole term: the root is node 1, with no binder around it.
-pub whole-layable : {code : List ℕ} {l : ℕ} {t : Term} → Whole code l t → Layable code 0 0 mostNodes l t
+pub whole-layable : {code : List ℕ} {n l : ℕ} {t : Term} → Whole code n l t → Layable code n 0 0 mostNodes l t
 whole-layable w = record {
   rest = w .rest;
   stands = w .stands;
   closed = w .closed;
-  few-nodes = omega arith;
-  scope-room = omega arith;
-  table-room = omega arith;
+  few-nodes = w .few-nodes;
+  among-them = omega (arith, w .all);
+  scope-room = omega (arith, w .all, w .few-nodes);
+  table-room = w .room;
 }
 
-pub whole-laid : (scope table scope′ table′ : List ℕ) (r : ℕ) (t : Term) → 5 * size t ≤ length table → Laid 0 0 0 0 scope table r scope′ table′ t
+pub whole-laid : (scope table scope′ table′ : List ℕ) (n r : ℕ) (t : Term) → size t ≡ n → 5 * n ≤ length table → Laid n 0 0 0 0 scope table r scope′ table′ t
     → table′ ≡ tableOf t ++ drop (5 * size t) table
 unfolding tableOf
-whole-laid scope table scope′ table′ r t room laid =
-    let n = rows-length t [] 1 0 0 in
-    laid .wrote ∙ sets-eq (rowsOf t [] 1 0 0) table 0 (omega arith) ∙ rw n (simp zero-add)
+whole-laid scope table scope′ table′ n r t all room laid =
+    laid .wrote
+    ∙ ap (λ k. columnsPut k table 0 (columnsOf t [] 1 0 0)) (sym all)
+    ∙ put-whole (size t) table 0 (columnsOf t [] 1 0 0) (columns-long t [] 1 0 0)
+    ∙ sets-eq (tableOf t) table 0 (omega (arith, table-length t, all))
+    ∙ ap (λ k. tableOf t ++ drop k table) (let e : 0 + length (tableOf t) ≡ 5 * size t = omega (arith, table-length t) in e)

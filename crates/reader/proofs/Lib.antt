@@ -10,6 +10,7 @@ pub mod NextToken
 pub mod Coding
 pub mod Descent
 pub mod Parts
+pub mod Beside
 pub mod Laid
 pub mod Nameless
 pub mod Answering

@@ -31,32 +31,34 @@ later-words : (code : List ℕ) (before next : ℕ) (ws rest : List ℕ) → dro
 later-words code before next ws rest e h = rw h (sym (drop-drop (length ws) before code) ∙ rw e (drop-at ws rest (length ws) refl))
 
 -- a part is as ready in slices of the same lengths
-pub layable-as : {code : List ℕ} {before d s s′ l l′ : ℕ} {t : Term} → s ≡ s′ → l ≡ l′ → Layable code before d s l t → Layable code before d s′ l′ t
-layable-as {code} {before} {d} {t = t} e h r = subst₂ (λ m n. Layable code before d m n t) e h r
+pub layable-as : {code : List ℕ} {n before d s s′ l l′ : ℕ} {t : Term} → s ≡ s′ → l ≡ l′ → Layable code n before d s l t → Layable code n before d s′ l′ t
+layable-as {code} {n} {before} {d} {t = t} e h r = subst₂ (λ m k. Layable code n before d m k t) e h r
 
--- A node of its own has its word, its row and its place in the scope.
-pub record NodeRoom (code : List ℕ) (before d s l : ℕ) : Type 0 where
+-- A node of its own has its word, its place in the columns and its place in the scope.
+pub record NodeRoom (code : List ℕ) (n before d s l : ℕ) : Type 0 where
   pub in-code : before < length code
-  pub few-nodes : before < 3000
+  pub few-nodes : n ≤ 3000
+  pub among-them : before < n
   pub scope-room : d < s
-  pub table-room : 5 * before + 5 ≤ l
+  pub table-room : 5 * n ≤ l
 
-module _ (code : List ℕ) (before d s l : ℕ) where
+module _ (code : List ℕ) (n before d s l : ℕ) where
   abbrev Here : Term → Type 0
-  Here t = Layable code before d s l t
+  Here t = Layable code n before d s l t
 
-  pub node-room : (t : Term) → Here t → NodeRoom code before d s l
+  pub node-room : (t : Term) → Here t → NodeRoom code n before d s l
   node-room t r =
-      let n = size-positive t in
+      let k = size-positive t in
       record {
         in-code = omega (arith, ap length (r .stands), length-drop before code, length-append (codeOf t) (r .rest), code-length t);
-        few-nodes = omega arith;
-        scope-room = omega arith;
-        table-room = omega arith;
+        few-nodes = r .few-nodes;
+        among-them = omega (arith, r .among-them);
+        scope-room = omega (arith, r .scope-room);
+        table-room = r .table-room;
       }
 
   -- the word 1 begins an abstraction,
-  pub body-layable : (t : Term) → Here t → getD code before 0 ≡ 1 → (b : Term) × (t ≡ lam b) × Layable code (before + 1) (d + 1) s l b
+  pub body-layable : (t : Term) → Here t → getD code before 0 ≡ 1 → (b : Term) × (t ≡ lam b) × Layable code n (before + 1) (d + 1) s l b
   unfolding codeOf
   body-layable (var x) r e = absurd (omega (arith, first-word code before (3 + x) (r .rest) (r .stands)))
   body-layable (lam b) r e = (
@@ -66,9 +68,10 @@ module _ (code : List ℕ) (before d s l : ℕ) where
       rest = r .rest;
       stands = other-words code before 1 (codeOf b ++ r .rest) (r .stands);
       closed = rw add-one (r .closed);
-      few-nodes = omega arith;
-      scope-room = omega arith;
-      table-room = omega arith;
+      few-nodes = r .few-nodes;
+      among-them = omega (arith, r .among-them);
+      scope-room = omega (arith, r .scope-room);
+      table-room = r .table-room;
     },
   )
   body-layable (app f a) r e = absurd (omega (arith, first-word code before 2 (codeOf f ++ codeOf a ++ r .rest) (r .stands)))
@@ -78,8 +81,8 @@ module _ (code : List ℕ) (before d s l : ℕ) where
     pub function : Term
     pub argument : Term
     pub is-app : t ≡ app function argument
-    pub function-layable : Layable code (before + 1) d s l function
-    pub argument-layable : (next : ℕ) → next ≡ before + 1 + size function → Layable code next d s l argument
+    pub function-layable : Layable code n (before + 1) d s l function
+    pub argument-layable : (next : ℕ) → next ≡ before + 1 + size function → Layable code n next d s l argument
 
   pub parts-layable : (t : Term) → Here t → getD code before 0 ≡ 2 → Parts t
   unfolding codeOf
@@ -93,17 +96,19 @@ module _ (code : List ℕ) (before d s l : ℕ) where
       rest = codeOf a ++ r .rest;
       stands = after;
       closed = r .closed .0;
-      few-nodes = omega arith;
-      scope-room = omega arith;
-      table-room = omega arith;
+      few-nodes = r .few-nodes;
+      among-them = omega (arith, r .among-them);
+      scope-room = omega (arith, r .scope-room);
+      table-room = r .table-room;
     };
     argument-layable = λ next h. record {
       rest = r .rest;
       stands = later-words code (before + 1) next (codeOf f) (codeOf a ++ r .rest) after (omega (arith, code-length f));
       closed = r .closed .1;
-      few-nodes = omega arith;
-      scope-room = omega arith;
-      table-room = omega arith;
+      few-nodes = r .few-nodes;
+      among-them = omega (arith, r .among-them);
+      scope-room = omega (arith, r .scope-room);
+      table-room = r .table-room;
     };
   }
     where
@@ -114,6 +119,6 @@ module _ (code : List ℕ) (before d s l : ℕ) where
   pub index-layable : (t : Term) → Here t → (getD code before 0 ≡ 1 → ⊥) → (getD code before 0 ≡ 2 → ⊥)
       → (x : ℕ) × (t ≡ var x) × (getD code before 0 ≡ 3 + x) × (x < d)
   unfolding codeOf
-  index-layable (var x) r n m = (x, refl, first-word code before (3 + x) (r .rest) (r .stands), r .closed)
-  index-layable (lam b) r n m = absurd (n (first-word code before 1 (codeOf b ++ r .rest) (r .stands)))
-  index-layable (app f a) r n m = absurd (m (first-word code before 2 (codeOf f ++ codeOf a ++ r .rest) (r .stands)))
+  index-layable (var x) r h m = (x, refl, first-word code before (3 + x) (r .rest) (r .stands), r .closed)
+  index-layable (lam b) r h m = absurd (h (first-word code before 1 (codeOf b ++ r .rest) (r .stands)))
+  index-layable (app f a) r h m = absurd (m (first-word code before 2 (codeOf f ++ codeOf a ++ r .rest) (r .stands)))

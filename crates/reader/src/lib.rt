@@ -25,7 +25,7 @@ pub struct Reading {
 }
 
 // Document 01, "The nine numbers": 1 to 6, each put to the whole text. "A refused reader answers n as 0", and then no word is written.
-pub fn read(text: &[u8], table: &mut [u32]) -> Reading
+pub fn read(text: &[u8], table: &mut [u16]) -> Reading
     ensures { λ r. ⌜ readMeant r (now (table .exit)) ≡ readOf (now (text .entry)) (now (table .entry)) ⌝ }
 {
     let number = spelling_number(text);
@@ -41,7 +41,7 @@ pub fn read(text: &[u8], table: &mut [u32]) -> Reading
 }
 
 // Document 02, change 7: 1, 13, 14 and 6 for a text of the number dialect, each put to the whole text.
-pub fn read_numbers(text: &[u8], table: &mut [u32]) -> Reading
+pub fn read_numbers(text: &[u8], table: &mut [u16]) -> Reading
     ensures { λ r. ⌜ readMeant r (now (table .exit)) ≡ readNumbersOf (now (text .entry)) (now (table .entry)) ⌝ }
 {
     if 3000 < text.len() {
@@ -139,7 +139,7 @@ fn any_zero(code: &[u32], n: usize) -> bool
 }
 
 // The number of a variable without a binder, number 6, and the table where neither applies.
-fn answer_for(code: &[u32], n: usize, unbound: u32, table: &mut [u32]) -> Reading
+fn answer_for(code: &[u32], n: usize, unbound: u32, table: &mut [u16]) -> Reading
     requires { ⌜ ((o : Option Term) × InCode (now code) n o) ⌝ }
     ensures { λ r. ⌜ AnsweredFor (now (code .entry)) n unbound r (now (table .entry)) (now (table .exit)) ⌝ }
 {
@@ -150,7 +150,7 @@ fn answer_for(code: &[u32], n: usize, unbound: u32, table: &mut [u32]) -> Readin
     if table.len() < 5 * n {
         return refused(6);
     }
-    layout::lay_out(code, table);
+    layout::lay_out(code, n, table);
     Reading {
         n: count,
         refusal: 0,

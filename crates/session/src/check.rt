@@ -30,7 +30,7 @@ fn zeros(words: &[u32]) -> bool
 }
 
 // How many entries there are once word v has taken its arity-many of those there were, or 0 where it makes none.
-fn entries_with(table: &[u32], n: u32, v: u32, have: usize) -> usize
+fn entries_with(table: &[u16], n: u32, v: u32, have: usize) -> usize
     requires { ⌜ have < 2 ^ 63 ⌝ }
     ensures { λ r. ⌜ r ≡ numberMeant (countEntry (tableIn (now (table .entry)) n) v have) ⌝ }
 {
@@ -55,7 +55,7 @@ fn is_bullet(word: u32, bullets: bool) -> bool
 }
 
 // The entries that the words, read from the low end, leave on top, down to a bullet.
-fn entries_in(table: &[u32], n: u32, words: &[u32], bullets: bool) -> Count
+fn entries_in(table: &[u16], n: u32, words: &[u32], bullets: bool) -> Count
     ensures { λ r. ⌜ CountIs (haveWords bullets (tableIn (now (table .entry)) n) (now (words .entry)) 0) r ⌝ }
 {
     let mut have: usize = 0;
@@ -75,7 +75,7 @@ fn entries_in(table: &[u32], n: u32, words: &[u32], bullets: bool) -> Count
 }
 
 // Whether the words are those of so many entries.
-fn is_log(table: &[u32], n: u32, words: &[u32], level: u32) -> bool
+fn is_log(table: &[u16], n: u32, words: &[u32], level: u32) -> bool
     ensures { λ r. ⌜ r ≡ ifSome (haveLog (tableIn (now (table .entry)) n) (now (words .entry)) 0) (λ k. eqb k level) (λ _. false) ⌝ }
 {
     let counted = entries_in(table, n, words, false);
@@ -86,7 +86,7 @@ fn is_log(table: &[u32], n: u32, words: &[u32], level: u32) -> bool
 }
 
 // Whether the words are those of bullets and entries.
-fn is_tape(table: &[u32], n: u32, words: &[u32]) -> bool
+fn is_tape(table: &[u16], n: u32, words: &[u32]) -> bool
     ensures { λ r. ⌜ r ≡ not (isNone (haveTape (tableIn (now (table .entry)) n) (now (words .entry)) 0)) ⌝ }
 {
     let counted = entries_in(table, n, words, true);
@@ -98,7 +98,7 @@ fn is_tape(table: &[u32], n: u32, words: &[u32]) -> bool
 
 // Whether the words below both tops are the log and the tape of a state at the session's node: the walk over the entries. It sees no word above a top, so its answer is
 // number 9's only after a look there: it "demands that every word above both tops is 0" (document 02, change 4).
-fn walk_entries(table: &[u32], n: u32, session: Session, log: &[u32], tape: &[u32]) -> bool
+fn walk_entries(table: &[u16], n: u32, session: Session, log: &[u32], tape: &[u32]) -> bool
     requires { ⌜ (session .«log_len» ≤ length (now log)) × (session .«tape_len» ≤ length (now tape)) ⌝ }
     requires { ⌜ (allZero (drop (session .«log_len») (now log)) ≡ true) × (allZero (drop (session .«tape_len») (now tape)) ≡ true) ⌝ }
     ensures { λ r. ⌜ r ≡ not (isNone (stateIn (tableIn (now (table .entry)) n) (sessionMeant session)
@@ -121,7 +121,7 @@ fn walk_entries(table: &[u32], n: u32, session: Session, log: &[u32], tape: &[u3
 }
 
 // Whether the session and its slices hold a state: once both tops lie in their slices, first the look at the words above them, and only then the walk.
-fn holds_state(table: &[u32], n: u32, session: Session, log: &[u32], tape: &[u32]) -> bool
+fn holds_state(table: &[u16], n: u32, session: Session, log: &[u32], tape: &[u32]) -> bool
     ensures { λ r. ⌜ r ≡ not (isNone (stateIn (tableIn (now (table .entry)) n) (sessionMeant session)
         (now (log .entry)) (now (tape .entry)))) ⌝ }
 {
@@ -143,7 +143,7 @@ fn holds_state(table: &[u32], n: u32, session: Session, log: &[u32], tape: &[u32
 }
 
 // Numbers 7 and 8, which are put to what every call is lent, or 0.
-pub(crate) fn lent_number(table: &[u32], n: u32, log: &[u32], tape: &[u32]) -> u32
+pub(crate) fn lent_number(table: &[u16], n: u32, log: &[u32], tape: &[u32]) -> u32
     ensures { λ r. ⌜ r ≡ numberMeant (lentNumber (now (table .entry)) n (now (log .entry)) (now (tape .entry))) ⌝ }
 {
     if !term::accepts(table, n) {
@@ -159,7 +159,7 @@ pub(crate) fn lent_number(table: &[u32], n: u32, log: &[u32], tape: &[u32]) -> u
 }
 
 // Numbers 7 to 9, which are put to every call on a session, or 0.
-pub(crate) fn call_number(table: &[u32], n: u32, session: Session, log: &[u32], tape: &[u32]) -> u32
+pub(crate) fn call_number(table: &[u16], n: u32, session: Session, log: &[u32], tape: &[u32]) -> u32
     ensures { λ r. ⌜ r ≡ numberMeant (callNumber (lent (now (table .entry)) n session (now (log .entry)) (now (tape .entry)))) ⌝ }
 {
     let lent = lent_number(table, n, log, tape);
@@ -175,7 +175,7 @@ pub(crate) fn call_number(table: &[u32], n: u32, session: Session, log: &[u32], 
 
 // The number that refuses the calls to a node, or 0.
 pub(crate) fn visit_number(
-    table: &[u32],
+    table: &[u16],
     n: u32,
     session: Session,
     log: &[u32],

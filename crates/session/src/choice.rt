@@ -25,7 +25,7 @@ pub(crate) enum Fit {
 }
 
 // The rule that fits down at a node: by the node's kind, and at an abstraction by the word on top of the tape.
-fn chosen_down(table: &[u32], n: u32, session: Session, tape: &[u32]) -> Fit
+fn chosen_down(table: &[u16], n: u32, session: Session, tape: &[u32]) -> Fit
     requires { ⌜ (session .dir ≡ Dir.Down) × (session .«tape_len» ≤ length (now tape)) ⌝ }
     ensures { λ r. ⌜ Chooses (now (table .entry)) n session (now (tape .entry)) r ⌝ }
 {
@@ -58,7 +58,7 @@ fn chosen_down(table: &[u32], n: u32, session: Session, tape: &[u32]) -> Fit
 }
 
 // The rule that fits up at a node: by its place under its parent, and at a function by the word on top of the tape.
-fn chosen_up(table: &[u32], n: u32, session: Session, tape: &[u32]) -> Fit
+fn chosen_up(table: &[u16], n: u32, session: Session, tape: &[u32]) -> Fit
     requires { ⌜ (session .dir ≡ Dir.Up) × (session .«tape_len» ≤ length (now tape)) ⌝ }
     ensures { λ r. ⌜ Chooses (now (table .entry)) n session (now (tape .entry)) r ⌝ }
 {
@@ -95,7 +95,7 @@ fn chosen_up(table: &[u32], n: u32, session: Session, tape: &[u32]) -> Fit
 }
 
 // The rule that fits.
-pub(crate) fn chosen(table: &[u32], n: u32, session: Session, tape: &[u32]) -> Fit
+pub(crate) fn chosen(table: &[u16], n: u32, session: Session, tape: &[u32]) -> Fit
     requires { ⌜ session .«tape_len» ≤ length (now tape) ⌝ }
     ensures { λ r. ⌜ Chooses (now (table .entry)) n session (now (tape .entry)) r ⌝ }
 {

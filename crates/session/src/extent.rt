@@ -6,7 +6,7 @@ ghost use Rattle.calls.specs.Calls.{longest};
 ghost use Rattle.session.specs.Extent.{ListIn, spanBelow};
 
 // The arity of a variable: its level less its binder's level, and 0 where that is less than nothing.
-pub(crate) fn arity(table: &[u32], n: u32, v: u32) -> u32
+pub(crate) fn arity(table: &[u16], n: u32, v: u32) -> u32
     ensures { λ r. ⌜ r ≡ arityOf (tableIn (now (table .entry)) n) v ⌝ }
 {
     let own = term::level(table, n, v);
@@ -16,7 +16,7 @@ pub(crate) fn arity(table: &[u32], n: u32, v: u32) -> u32
 }
 
 // How many of the words below index `top`, read from the top down, the next `owed` entries take: each word pays one entry and owes its arity.
-pub(crate) fn span(table: &[u32], n: u32, words: &[u32], top: usize, owed: usize) -> usize
+pub(crate) fn span(table: &[u16], n: u32, words: &[u32], top: usize, owed: usize) -> usize
     requires { ⌜ ListIn (now words) top × (owed ≤ longest) ⌝ }
     ensures { λ r. ⌜ (r ≡ spanBelow (tableIn (now (table .entry)) n) (now (words .entry)) top owed) × (r ≤ top) ⌝ }
 {

@@ -88,7 +88,7 @@ fn clear(words: &mut [u32])
 }
 
 // Open: the start state at position 0, and both slices zeroed; or refused, with no word written.
-pub fn open(table: &[u32], n: u32, log: &mut [u32], tape: &mut [u32]) -> Opening
+pub fn open(table: &[u16], n: u32, log: &mut [u32], tape: &mut [u32]) -> Opening
     ensures { λ r. ⌜ openingMeant r (now (log .exit)) (now (tape .exit))
         ≡ openOf (now (table .entry)) n (now (log .entry)) (now (tape .entry)) ⌝ }
 {
@@ -134,7 +134,7 @@ fn refused_outcome(session: Session, number: u32) -> Outcome
 
 // A call by a count, forward or back.
 fn call(
-    table: &[u32],
+    table: &[u16],
     n: u32,
     session: Session,
     log: &mut [u32],
@@ -154,7 +154,7 @@ fn call(
 
 // To a position: forward or back by the difference.
 pub fn go_to(
-    table: &[u32],
+    table: &[u16],
     n: u32,
     session: Session,
     log: &mut [u32],
@@ -174,7 +174,7 @@ pub fn go_to(
 
 // Forward by a count: steps of the plain machine until a stop.
 pub fn forward(
-    table: &[u32],
+    table: &[u16],
     n: u32,
     session: Session,
     log: &mut [u32],
@@ -189,7 +189,7 @@ pub fn forward(
 
 // Back by a count: each step is turned, made and turned again.
 pub fn back(
-    table: &[u32],
+    table: &[u16],
     n: u32,
     session: Session,
     log: &mut [u32],
@@ -204,7 +204,7 @@ pub fn back(
 
 // Back to the last earlier position at which the token stood on the node in the direction, found; or none, with the session and every word as given. The present position is not one.
 pub fn back_to(
-    table: &[u32],
+    table: &[u16],
     n: u32,
     session: Session,
     log: &mut [u32],
@@ -224,7 +224,7 @@ pub fn back_to(
 
 // Forward to the first later position at which the token stands on the node in the direction, if forward by the count reaches one; else as forward by the count.
 pub fn forward_to(
-    table: &[u32],
+    table: &[u16],
     n: u32,
     session: Session,
     log: &mut [u32],
@@ -246,7 +246,7 @@ pub fn forward_to(
 // The top entry of log or tape, or the bullet on top of the tape, as that part of the lent slice itself, its top word last; empty where it is refused. The number,
 // 0 for none, goes out through `refusal`, and nothing else is written. The clause `shown` fixes the words and the number, `there` the address, so that equal words elsewhere do not do.
 pub fn top<'a>(
-    table: &[u32],
+    table: &[u16],
     n: u32,
     session: Session,
     log: &'a [u32],

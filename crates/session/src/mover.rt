@@ -30,7 +30,7 @@ fn move_words(from: &mut [u32], top: usize, k: usize, to: &mut [u32])
 
 // Moves the next `owed` entries below index `top` of `from` to `to`, which the caller lends as the part of its slice that starts at its present top.
 pub(crate) fn move_entries(
-    table: &[u32],
+    table: &[u16],
     n: u32,
     from: &mut [u32],
     top: usize,
@@ -51,7 +51,7 @@ pub(crate) fn move_entries(
 
 // The same with the variable's own word above the words moved: the whole entry is written into the part.
 pub(crate) fn make_entry(
-    table: &[u32],
+    table: &[u16],
     n: u32,
     from: &mut [u32],
     top: usize,

@@ -30,7 +30,7 @@ fn no_place(number: u32) -> PartPlace
 }
 
 // How many words are those of what is on top of a list of `len` words: a bullet has one.
-fn item_size(table: &[u32], n: u32, words: &[u32], len: usize) -> usize
+fn item_size(table: &[u16], n: u32, words: &[u32], len: usize) -> usize
     requires { ⌜ (1 ≤ len) × ListIn (now words) len ⌝ }
     ensures { λ r. ⌜ (r ≡ itemSpan (tableIn (now (table .entry)) n) (now (words .entry)) len) × (r ≤ len) ⌝ }
 {
@@ -41,7 +41,7 @@ fn item_size(table: &[u32], n: u32, words: &[u32], len: usize) -> usize
 }
 
 // Where they lie, below the end of the list; 10 where it has no word.
-fn place_in(table: &[u32], n: u32, words: &[u32], len: u32) -> PartPlace
+fn place_in(table: &[u16], n: u32, words: &[u32], len: u32) -> PartPlace
     requires { ⌜ ListIn (now words) len ⌝ }
     ensures { λ r. ⌜ r ≡ placeIn (tableIn (now (table .entry)) n) (now (words .entry)) len ⌝ }
 {
@@ -59,7 +59,7 @@ fn place_in(table: &[u32], n: u32, words: &[u32], len: u32) -> PartPlace
 
 // The same of the chosen list, on whatever is lent: 7 to 9 come first.
 pub(crate) fn top_place(
-    table: &[u32],
+    table: &[u16],
     n: u32,
     session: Session,
     log: &[u32],

@@ -85,7 +85,7 @@ fn list_ends(moving: Moving, top: u32, end: u32, own: u32) -> ListEnds
 
 // Rules 4, 6 and 8. The next `owed` entries below index `top` of one list's slice move onto the other list, which has `end` words.
 fn move_onto(
-    table: &[u32],
+    table: &[u16],
     n: u32,
     from: &mut [u32],
     top: u32,
@@ -135,7 +135,7 @@ fn onto_tape(to: u32, dir: Dir, ends: ListEnds) -> Stepped
 }
 
 // Rule 3. To the binder, up; the top arity-many entries leave the log, and the entry of the variable and these goes onto the tape. The variable's own word is made there, not carried.
-fn rule_3(table: &[u32], n: u32, at: Session, to: u32, log: &mut [u32], tape: &mut [u32]) -> Stepped
+fn rule_3(table: &[u16], n: u32, at: Session, to: u32, log: &mut [u32], tape: &mut [u32]) -> Stepped
     requires { ⌜ Fitting (now table) n at (now log) (now tape) (Rule.Three to) ⌝ }
     ensures { λ r. ⌜ Steps (now (table .entry)) n at (now (log .entry)) (now (tape .entry)) r (now (log .exit)) (now (tape .exit)) ⌝ }
 {
@@ -148,7 +148,7 @@ fn rule_3(table: &[u32], n: u32, at: Session, to: u32, log: &mut [u32], tape: &m
 }
 
 // Rule 4. To the entry's variable, up; the entries inside it go onto the log in their order, and its own word leaves the tape, carried nowhere.
-fn rule_4(table: &[u32], n: u32, at: Session, to: u32, log: &mut [u32], tape: &mut [u32]) -> Stepped
+fn rule_4(table: &[u16], n: u32, at: Session, to: u32, log: &mut [u32], tape: &mut [u32]) -> Stepped
     requires { ⌜ Fitting (now table) n at (now log) (now tape) (Rule.Four to) ⌝ }
     ensures { λ r. ⌜ Steps (now (table .entry)) n at (now (log .entry)) (now (tape .entry)) r (now (log .exit)) (now (tape .exit)) ⌝ }
 {
@@ -166,7 +166,7 @@ fn rule_4(table: &[u32], n: u32, at: Session, to: u32, log: &mut [u32], tape: &m
 
 // One step by a rule that fits, if the slices have room for it.
 pub(crate) fn step(
-    table: &[u32],
+    table: &[u16],
     n: u32,
     session: Session,
     log: &mut [u32],

@@ -61,7 +61,7 @@ fn is_found(stop: Stop) -> bool
 // The search back, to position 0 at most. Without a visit the token turns round and goes the whole way forward again, which gives back every word;
 // peak and words carried are then those of a walk of no step.
 pub(crate) fn seek_back(
-    table: &[u32],
+    table: &[u16],
     n: u32,
     session: Session,
     log: &mut [u32],

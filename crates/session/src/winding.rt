@@ -107,7 +107,7 @@ fn after_step(session: Session, to: Arrival, way: Way) -> Session
 }
 
 // Whether the token stands at the answer: down at an abstraction with an empty tape.
-fn is_answer(table: &[u32], n: u32, session: Session) -> bool
+fn is_answer(table: &[u16], n: u32, session: Session) -> bool
     ensures { λ r. ⌜ TellsAnswer (now (table .entry)) n session r ⌝ }
 {
     let dir = session.dir;
@@ -124,7 +124,7 @@ fn is_answer(table: &[u32], n: u32, session: Session) -> bool
 }
 
 // Whether a walk has come to its end: forward to the answer, back to the start.
-fn is_end(table: &[u32], n: u32, session: Session, way: Way) -> bool
+fn is_end(table: &[u16], n: u32, session: Session, way: Way) -> bool
     ensures { λ r. ⌜ TellsEnd (now (table .entry)) n session (wayMeant way) r ⌝ }
 {
     match way {
@@ -155,7 +155,7 @@ fn is_far(session: Session, way: Way) -> bool
 
 // What ends a walk before a step, the count not used up, but for a full slice, which the step finds. The tests are in the order of document 01. The rule is chosen in one place
 // for both ways, so that the compiler puts the choice into the loop.
-fn before_step(table: &[u32], n: u32, session: Session, tape: &[u32], way: Way) -> Before
+fn before_step(table: &[u16], n: u32, session: Session, tape: &[u32], way: Way) -> Before
     requires { ⌜ session .«tape_len» ≤ length (now tape) ⌝ }
     ensures { λ r. ⌜ TellsBefore (now (table .entry)) n session (now (tape .entry)) (wayMeant way) r ⌝ }
 {
@@ -179,7 +179,7 @@ fn before_step(table: &[u32], n: u32, session: Session, tape: &[u32], way: Way) 
 
 // One pass, the count not used up.
 fn one_pass(
-    table: &[u32],
+    table: &[u16],
     n: u32,
     session: Session,
     log: &mut [u32],
@@ -277,7 +277,7 @@ pub(crate) fn halted(run: Outcome, stop: Stop) -> Outcome
 // At most `count` passes, the peak over the states stood in and the words carried; found as soon as a step leads to the node in the direction. Where the token stands at first is not looked at. The bullets
 // are counted once, and then kept count of.
 pub(crate) fn seek(
-    table: &[u32],
+    table: &[u16],
     n: u32,
     session: Session,
     log: &mut [u32],
@@ -314,7 +314,7 @@ pub(crate) fn seek(
 
 // At most `count` passes: a search for node 0, on which the token never stands.
 pub(crate) fn wind(
-    table: &[u32],
+    table: &[u16],
     n: u32,
     session: Session,
     log: &mut [u32],

@@ -6,27 +6,28 @@ use mathlib.Core.List.{List, []}
 use Prim.Native.Nat.{ℕ, suc, _*_, _≤_}
 use native.Mathlib.Omega.{arith}
 use lib.ListN.{length, take}
-use lib.Seq.{length-take-le}
 use lib.Dec.{leb}
 use borrow.Author.Tests.{eq-eqb, le-leb, eqb-true, leb-true}
 use Rattle.term.specs.Term.{Term, size, Closed}
 use Rattle.term.specs.Table.{tableOf, tableIn}
+use Rattle.term.specs.Rows.{RowsIn}
 use Rattle.term.specs.Accepted.{mostNodes, Accepted, Part, part, partAt, isWhole, accepted}
 use Rattle.term.proofs.Choice.{both, each, fails}
-use Rattle.term.proofs.Rows.{size-positive, rows-length, table-stands, table-is}
+use Rattle.term.proofs.Rows.{size-positive}
+use Rattle.term.proofs.Columns.{table-size, table-stands, table-is}
 use Rattle.term.proofs.Reading.{reads, PartRead, reads-only}
 
 module _ (w : List ℕ) (n : ℕ) where
   pub term-size : (A : Accepted w n) → size (A .term) ≡ n
-  unfolding tableOf
-  term-size A =
-      let e : 5 * size (A .term) ≡ 5 * n = sym (rows-length (A .term) [] 1 0 0) ∙ ap length (A .same) ∙ length-take-le (5 * n) w (A .long) in
-      omega arith
+  term-size A = table-size w n (A .term) (A .same) (A .long)
+
+  pub accepted-rows : (A : Accepted w n) → RowsIn (tableIn w n) (A .term) [] 1 0 0
+  accepted-rows A = table-stands w n (A .term) (A .same) (A .long)
 
   pub read-whole : (A : Accepted w n) → partAt n (tableIn w n) [] 1 0 0 ≡ some (part (A .term) (suc n))
   read-whole A =
       let e : size (A .term) ≡ n = term-size A in
-      reads (tableIn w n) n (A .term) [] 1 0 0 (table-stands w n (A .term) (A .same)) (A .closed) tt (omega arith)
+      reads (tableIn w n) n (A .term) [] 1 0 0 (accepted-rows A) (A .closed) tt (omega arith)
       ∙ ap (λ j. some (part (A .term) j)) (omega arith)
 
   pub accepts-all : Accepted w n → accepted w n ≡ true

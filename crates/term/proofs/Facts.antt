@@ -14,9 +14,9 @@ use Rattle.term.specs.Table.{Table, tableIn, Kind, variable, abstraction
 use Rattle.term.specs.Rows.{Row, RowsIn}
 use Rattle.term.specs.Accepted.{Accepted}
 use Rattle.term.specs.Facts.{IsNode, Stands, Below, as-body, under-body, under-function, under-argument, Bound, Facts}
-use Rattle.term.proofs.Rows.{root-parent, root-level, size-positive, table-stands}
+use Rattle.term.proofs.Rows.{root-parent, root-level, size-positive}
 use Rattle.term.proofs.Table.{nodes-are, row-before, kind-beyond, kind-before}
-use Rattle.term.proofs.Accepted.{term-size}
+use Rattle.term.proofs.Accepted.{term-size, accepted-rows}
 
 -- The facts of a node, by its kind.
 abbrev FactsOf : Table → ℕ → Kind → Type 0
@@ -160,7 +160,7 @@ module _ (w : List ℕ) (n : ℕ) where
       let e : size (A .term) ≡ n = term-size w n A in
       let m : tableIn w n .nodes ≡ n = nodes-are w n in
       let l : i ≤ n = rw m at (h .to-last) in
-      node-facts (tableIn w n) (A .term) [] 1 0 0 (table-stands w n (A .term) (A .same)) (λ x z. absurd (not-suc-le-zero z)) (A .closed) (omega arith) i (h .from-one) (omega arith)
+      node-facts (tableIn w n) (A .term) [] 1 0 0 (accepted-rows w n A) (λ x z. absurd (not-suc-le-zero z)) (A .closed) (omega arith) i (h .from-one) (omega arith)
 
   kind-facts : Accepted w n → (i : ℕ) (k : Kind) → NodeKind k → kindAt (tableIn w n) i ≡ k → FactsOf (tableIn w n) i k
   kind-facts A i k t e = subst (FactsOf (tableIn w n) i) e (table-facts A i (only-node i (λ z. subst NodeKind (sym e ∙ z) t)))
@@ -168,7 +168,7 @@ module _ (w : List ℕ) (n : ℕ) where
   root-stands : Accepted w n → Stands (tableIn w n) 1 nowhere 0
   unfolding kindOf placeUnder
   root-stands A =
-      let h : RowsIn (tableIn w n) (A .term) [] 1 0 0 = table-stands w n (A .term) (A .same) in
+      let h : RowsIn (tableIn w n) (A .term) [] 1 0 0 = accepted-rows w n A in
       record {
         there = record { from-one = omega arith; to-last = rw nodes-are (A .some-node) };
         place-is = place-of (tableIn w n) 1 0 0 (root-parent (tableIn w n) (A .term) [] 1 0 0 h) (row-before w n .kind-is);

@@ -3,8 +3,11 @@ pub mod Closed
 pub mod Stores
 pub mod Rows
 pub mod Table
+pub mod Columns
 pub mod Scope
 pub mod Reading
 pub mod Accepted
+pub mod ByRows
+pub mod SmallWords
 pub mod Facts
 pub mod Walk

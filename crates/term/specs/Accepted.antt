@@ -3,8 +3,8 @@ use mathlib.Core.Path.{_≡_}
 use mathlib.Core.Bool.{Bool, false, _&&_, cond}
 use mathlib.Core.Option.{Option, none, some}
 use mathlib.Core.List.{List, [], _∷_}
-use Prim.Native.Nat.{ℕ, zero, suc, _*_, _≤_}
-use lib.ListN.{length, take}
+use Prim.Native.Nat.{ℕ, zero, suc, _*_, _≤_, _<_}
+use lib.ListN.{length, getD, take}
 use lib.Dec.{leb, eqb}
 use Rattle.term.specs.Choice.{_>>=_}
 use Rattle.term.specs.Term.{Term, var, lam, app, Closed}
@@ -59,5 +59,13 @@ abbrev pub isWhole : ℕ → Option Part → Bool
 isWhole n none = false
 isWhole n (some q) = eqb (q .next) (suc n)
 
+-- A table of n nodes that lies in a slice of so many words is a term's.
+abbrev pub isTable : ℕ → ℕ → Table → Bool
+isTable words n T = leb 1 n && leb n mostNodes && leb (5 * n) words && isWhole n (partAt n T [] 1 0 0)
+
 unfoldable pub accepted : List ℕ → ℕ → Bool
-accepted w n = leb 1 n && leb n mostNodes && leb (5 * n) (length w) && isWhole n (partAt n (tableIn w n) [] 1 0 0)
+accepted w n = isTable (length w) n (tableIn w n)
+
+-- Document 02, change 8, "16 bits wide": each word of an accepted table is at most 3,000 (`small-words`, proofs/SmallWords.antt).
+abbrev pub SmallWords : Type 0
+SmallWords = (w : List ℕ) (n : ℕ) → Accepted w n → (k : ℕ) → k < 5 * n → getD w k 0 ≤ mostNodes

@@ -3,6 +3,7 @@ pub mod Term
 pub mod Table
 pub mod Rows
 pub mod Accepted
+pub mod ByRows
 pub mod Facts
 pub mod Walk
 pub mod Code

@@ -1,9 +1,9 @@
--- Document 01, "The term table": a term's rows of five words, and a table as five fields of the node number.
-use mathlib.Core.Bool.{Bool, true, false, cond}
+-- Document 01, "The term table": a term's rows of five words, and a table as five fields of the node number; and document 02, change 8: the same words in five columns.
+use mathlib.Core.Bool.{Bool, true, false, _&&_, cond}
 use mathlib.Core.List.{List, [], _∷_, _++_}
 use Prim.Native.Nat.{ℕ, zero, suc, _+_, _-_, _*_}
-use lib.ListN.{getD, take}
-use lib.Dec.{eqb}
+use lib.ListN.{length, getD}
+use lib.Dec.{eqb, leb, ltb}
 use Rattle.term.specs.Term.{Term, var, lam, app, size}
 
 -- "Each node has five words, in this order": kind, left, right, parent, level.
@@ -17,9 +17,33 @@ rowsOf (var x) bs i p v = row 1 (getD bs x 0) 0 p v
 rowsOf (lam b) bs i p v = row 2 (suc i) 0 p v ++ rowsOf b (i ∷ bs) (suc i) i v
 rowsOf (app f a) bs i p v = row 3 (suc i) (suc i + size f) p v ++ (rowsOf f bs (suc i) i v ++ rowsOf a bs (suc i + size f) i (suc v))
 
--- The table of a closed term: the root is node 1, its parent word is 0.
+-- Column f of the same nodes: of each node the word f of its row, from 0.
+unfoldable pub columnOf : ℕ → Term → List ℕ → ℕ → ℕ → ℕ → List ℕ
+columnOf f (var x) bs i p v = getD (row 1 (getD bs x 0) 0 p v) f 0 ∷ []
+columnOf f (lam b) bs i p v = getD (row 2 (suc i) 0 p v) f 0 ∷ columnOf f b (i ∷ bs) (suc i) i v
+columnOf f (app g a) bs i p v =
+    getD (row 3 (suc i) (suc i + size g) p v) f 0 ∷ (columnOf f g bs (suc i) i v ++ columnOf f a bs (suc i + size g) i (suc v))
+
+-- "five columns of n words, .. one behind the other in one slice, in the order kind, left, right, parent, level"
+abbrev pub columnsOf : Term → List ℕ → ℕ → ℕ → ℕ → List (List ℕ)
+columnsOf t bs i p v = columnOf 0 t bs i p v ∷ columnOf 1 t bs i p v ∷ columnOf 2 t bs i p v ∷ columnOf 3 t bs i p v ∷ columnOf 4 t bs i p v ∷ []
+
+abbrev pub joined : List (List ℕ) → List ℕ
+joined [] = []
+joined (c ∷ cs) = c ++ joined cs
+
+-- How a table lies in a slice: in the rows that document 01 lists, or in columns, as every call has it now.
+pub data Layout : Type 0 where
+  rows columns : Layout
+
+-- The words of a closed term: the root is node 1, its parent word is 0.
+abbrev pub wordsOf : Layout → Term → List ℕ
+wordsOf rows t = rowsOf t [] 1 0 0
+wordsOf columns t = joined (columnsOf t [] 1 0 0)
+
+-- the table of a closed term
 unfoldable pub tableOf : Term → List ℕ
-tableOf t = rowsOf t [] 1 0 0
+tableOf t = wordsOf columns t
 
 -- A table as the machine reads it: n, and each field as a function of the node number.
 pub record Table : Type 0 where
@@ -30,25 +54,29 @@ pub record Table : Type 0 where
   pub parent : ℕ → ℕ
   pub level : ℕ → ℕ
 
--- Word k of node i where the words lie in rows of five, and 0 where there is none. Nodes count from 1.
-abbrev pub wordAt : List ℕ → ℕ → ℕ → ℕ
-wordAt ws zero k = 0
-wordAt ws (suc i) k = getD ws (5 * i + k) 0
+-- Which word of a slice, from 0, is field f (0 to 4: kind, left, right, parent, level) of the node after i others, in a table of n nodes.
+abbrev pub indexIn : Layout → ℕ → ℕ → ℕ → ℕ
+indexIn rows n i f = 5 * i + f
+indexIn columns n i f = f * n + i
 
--- The same in a slice that holds a table of n nodes: "Words after the first 5 × n are ignored", so it is 0 at node 0 and above n.
-abbrev pub wordIn : List ℕ → ℕ → ℕ → ℕ → ℕ
-wordIn w n i k = wordAt (take (5 * n) w) i k
+-- Field f of node i there. It is 0 at node 0, above n, and at every node where the slice has fewer than the 5 × n words of such a table. "Words after the first 5 × n are ignored".
+abbrev pub wordIn : Layout → List ℕ → ℕ → ℕ → ℕ → ℕ
+wordIn L w n zero f = 0
+wordIn L w n (suc i) f = cond (leb (5 * n) (length w) && ltb i n) (getD w (indexIn L n i f) 0) 0
+
+abbrev pub tableBy : Layout → List ℕ → ℕ → Table
+tableBy L w n = record {
+  nodes = n;
+  kind = λ i. wordIn L w n i 0;
+  left = λ i. wordIn L w n i 1;
+  right = λ i. wordIn L w n i 2;
+  parent = λ i. wordIn L w n i 3;
+  level = λ i. wordIn L w n i 4;
+}
 
 -- The table that lies in a slice.
 unfoldable pub tableIn : List ℕ → ℕ → Table
-tableIn w n = record {
-  nodes = n;
-  kind = λ i. wordIn w n i 0;
-  left = λ i. wordIn w n i 1;
-  right = λ i. wordIn w n i 2;
-  parent = λ i. wordIn w n i 3;
-  level = λ i. wordIn w n i 4;
-}
+tableIn w n = tableBy columns w n
 
 -- "The arity of a variable is its level less its binder's level."
 abbrev pub arity : Table → ℕ → ℕ

@@ -1,54 +1,56 @@
 // The table of a term: its words by node, and the test of number 7.
 ghost use mathlib.Core.Path.{_≡_};
 ghost use mathlib.Core.Bool.{not};
-ghost use Prim.Native.Nat.{_≤_};
+ghost use Prim.Native.Nat.{_≤_, _<_};
 ghost use lib.ListN.{length};
 ghost use Rattle.term.specs.Choice.{isNone};
-ghost use Rattle.term.specs.Table.{wordIn, tableIn};
+ghost use Rattle.term.specs.Table.{columns, wordIn, tableIn};
 ghost use Rattle.term.specs.Accepted.{mostNodes, accepted, binderIndex};
 ghost use Rattle.term.specs.Walk.{RootIs, bindersIn, ScopeRoom, PartWalked};
 
-// A node's word in its row, and 0 where there is none.
-fn word(table: &[u32], n: u32, node: u32, field: u32) -> u32
-    ensures { λ r. ⌜ r ≡ wordIn (now (table .entry)) n node field ⌝ }
+// Field 0 to 4 of a node, and 0 where there is none. Document 02, change 8: "five columns of n words, 16 bits wide, one behind the other in one slice".
+fn word(table: &[u16], n: u32, node: u32, field: u32) -> u32
+    requires { ⌜ field < 5 ⌝ }
+    ensures { λ r. ⌜ r ≡ wordIn columns (now (table .entry)) n node field ⌝ }
 {
+    let nodes = n as usize;
+    if table.len() < 5 * nodes {
+        return 0;
+    }
     if node == 0 {
         return 0;
     }
-    let at = 5 * (node as usize - 1) + field as usize;
-    if at < 5 * n as usize {
-        if at < table.len() {
-            return table[at];
-        }
+    if n < node {
+        return 0;
     }
-    0
+    table[field as usize * nodes + (node as usize - 1)] as u32
 }
 
-pub fn kind(table: &[u32], n: u32, node: u32) -> u32
+pub fn kind(table: &[u16], n: u32, node: u32) -> u32
     ensures { λ r. ⌜ r ≡ tableIn (now (table .entry)) n .kind node ⌝ }
 {
     word(table, n, node, 0)
 }
 
-pub fn left(table: &[u32], n: u32, node: u32) -> u32
+pub fn left(table: &[u16], n: u32, node: u32) -> u32
     ensures { λ r. ⌜ r ≡ tableIn (now (table .entry)) n .left node ⌝ }
 {
     word(table, n, node, 1)
 }
 
-pub fn right(table: &[u32], n: u32, node: u32) -> u32
+pub fn right(table: &[u16], n: u32, node: u32) -> u32
     ensures { λ r. ⌜ r ≡ tableIn (now (table .entry)) n .right node ⌝ }
 {
     word(table, n, node, 2)
 }
 
-pub fn parent(table: &[u32], n: u32, node: u32) -> u32
+pub fn parent(table: &[u16], n: u32, node: u32) -> u32
     ensures { λ r. ⌜ r ≡ tableIn (now (table .entry)) n .parent node ⌝ }
 {
     word(table, n, node, 3)
 }
 
-pub fn level(table: &[u32], n: u32, node: u32) -> u32
+pub fn level(table: &[u16], n: u32, node: u32) -> u32
     ensures { λ r. ⌜ r ≡ tableIn (now (table .entry)) n .level node ⌝ }
 {
     word(table, n, node, 4)
@@ -70,7 +72,7 @@ fn in_scope(scope: &[u32], depth: usize, b: u32) -> bool
 }
 
 // The kind of node i, if its own words let it be the root of a part with parent p and level v; else 0.
-fn root(table: &[u32], n: u32, i: u32, p: u32, v: u32) -> u32
+fn root(table: &[u16], n: u32, i: u32, p: u32, v: u32) -> u32
     requires { ⌜ n ≤ mostNodes ⌝ }
     ensures { λ r. ⌜ RootIs (tableIn (now (table .entry)) n) i p v r ⌝ }
 {
@@ -100,7 +102,7 @@ fn root(table: &[u32], n: u32, i: u32, p: u32, v: u32) -> u32
 
 // The node after the part whose root is node i, with parent p, level v and the first `depth` binders of the scope around it; 0 where there
 // is no such part.
-fn part_end(table: &[u32], n: u32, scope: &mut [u32], depth: usize, i: u32, p: u32, v: u32) -> u32
+fn part_end(table: &[u16], n: u32, scope: &mut [u32], depth: usize, i: u32, p: u32, v: u32) -> u32
     requires { ⌜ ScopeRoom (now scope) n depth i v ⌝ }
     ensures { λ r. ⌜ PartWalked (tableIn (now (table .entry)) n) (now (scope .entry)) (now (scope .exit)) depth i p v r ⌝ }
 {
@@ -127,7 +129,7 @@ fn part_end(table: &[u32], n: u32, scope: &mut [u32], depth: usize, i: u32, p: u
 }
 
 // Whether the slice holds the table of a closed term of n nodes, from 1 to 3,000.
-pub fn accepts(table: &[u32], n: u32) -> bool
+pub fn accepts(table: &[u16], n: u32) -> bool
     ensures { λ r. ⌜ r ≡ accepted (now (table .entry)) n ⌝ }
 {
     if n == 0 {

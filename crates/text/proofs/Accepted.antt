@@ -8,15 +8,12 @@ use lib.Seq.{take-at}
 use Rattle.term.specs.Term.{Term, size, Closed}
 use Rattle.term.specs.Table.{tableOf}
 use Rattle.term.specs.Accepted.{mostNodes, Accepted}
-use Rattle.term.proofs.Rows.{size-positive, rows-length}
+use Rattle.term.proofs.Rows.{size-positive}
+use Rattle.term.proofs.Columns.{table-length}
 use Rattle.term.proofs.Accepted.{table-closed}
 use Rattle.text.specs.Exactly.{Means, NamesMean, Accepts}
 use Rattle.text.proofs.Size.{nodes, few-nodes, size-nodes}
 use Rattle.text.proofs.Exactly.{nameless-meant, meant-closed}
-
-table-length : (t : Term) → length (tableOf t) ≡ 5 * size t
-unfolding tableOf
-table-length t = rows-length t [] 1 0 0
 
 pub table-first : (t : Term) (rest words : List ℕ) → words ≡ tableOf t ++ rest → take (5 * size t) words ≡ tableOf t
 table-first t rest words e = ap (take (5 * size t)) e ∙ take-at (tableOf t) rest (5 * size t) (table-length t)

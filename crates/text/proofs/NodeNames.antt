@@ -6,8 +6,7 @@ use native.Mathlib.Nat.{zero-add, add-zero, suc-add, add-suc}
 use Rattle.term.specs.Term.{Term, var, lam, app, size}
 use Rattle.term.specs.Table.{Table, tableIn}
 use Rattle.term.specs.Rows.{RowsIn}
-use Rattle.term.proofs.Rows.{table-stands}
-use Rattle.term.proofs.Accepted.{term-size}
+use Rattle.term.proofs.Accepted.{term-size, accepted-rows}
 use Rattle.text.specs.Written.{treeOf}
 use Rattle.text.specs.Spelling.{binderNames, abstractionNames, NamedByNode}
 
@@ -25,4 +24,4 @@ names-of T (app f a) bs i p v h =
 
 pub named-by-node : NamedByNode
 named-by-node w n A =
-    names-of (tableIn w n) (A .term) [] 1 0 0 (table-stands w n (A .term) (A .same)) ∙ ap (abstractionNames (tableIn w n) 1) (term-size w n A)
+    names-of (tableIn w n) (A .term) [] 1 0 0 (accepted-rows w n A) ∙ ap (abstractionNames (tableIn w n) 1) (term-size w n A)

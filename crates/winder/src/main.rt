@@ -13,7 +13,7 @@ fn main() {
     // One byte more than a text may have, so that a longer one shows.
     let mut bytes = [0u8; 3001];
     let got = io::read_full(0, &mut bytes);
-    let mut table = [0u32; 15000];
+    let mut table = [0u16; 15000];
     let r = reader::read(&bytes[..got], &mut table);
     if r.refusal != 0 {
         print_refusal(r.refusal);
@@ -45,7 +45,7 @@ fn is_spent(stop: Stop) -> bool {
 
 // At most 10,000 steps, a state and a step at a time. A write that fails ends the walk.
 fn print_walk(
-    table: &[u32],
+    table: &[u16],
     n: u32,
     first: Session,
     log: &mut [u32],

@@ -12,8 +12,7 @@ use Rattle.term.specs.Term.{Term}
 use Rattle.term.specs.Table.{Table, tableIn}
 use Rattle.term.specs.Rows.{RowsIn}
 use Rattle.term.specs.Accepted.{Accepted}
-use Rattle.term.proofs.Rows.{table-stands}
-use Rattle.term.proofs.Accepted.{term-size}
+use Rattle.term.proofs.Accepted.{term-size, accepted-rows}
 use Rattle.text.specs.Bytes.{space}
 use Rattle.text.specs.NumberGrammar.{numberText}
 use Rattle.text.proofs.NumberGrammar.{numbers-short}
@@ -50,7 +49,7 @@ module _ (w : List ℕ) (n : ℕ) (A : Accepted w n) where
   t = A .term
 
   rows : RowsIn T t [] 1 0 0
-  rows = table-stands w n t (A .same)
+  rows = accepted-rows w n A
 
   earlier : (j : ℕ) → 1 ≤ j → j ≤ n → T .parent j < j
   earlier j l h = let size-is = term-size w n A in parent-before T t [] 1 0 0 rows (omega arith) j (j - 1) (omega arith) (omega arith)

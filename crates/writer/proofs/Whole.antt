@@ -7,8 +7,7 @@ use native.Mathlib.Omega.{arith}
 use lib.ListN.{length}
 use borrow.Author.Tests.{lt-ltb, le-ltb}
 use Rattle.term.specs.Accepted.{Accepted, accepted}
-use Rattle.term.proofs.Rows.{table-stands}
-use Rattle.term.proofs.Accepted.{term-size}
+use Rattle.term.proofs.Accepted.{term-size, accepted-rows}
 use Rattle.text.specs.Reading.{mostBytes}
 use Rattle.text.specs.Written.{textOf}
 use Rattle.text.specs.Writing.{refused}
@@ -26,7 +25,7 @@ module _ (w : List ℕ) (n : ℕ) where
   whole-puttable A =
       let size-is = term-size w n A in
       record {
-        stood = record { parent = 0; level = 0; rows = table-stands w n (A .term) (A .same); last = omega arith };
+        stood = record { parent = 0; level = 0; rows = accepted-rows w n A; last = omega arith };
         short = omega (arith, A .few-nodes, text-short (A .term) (A .closed) (omega (arith, A .few-nodes)));
       }
 

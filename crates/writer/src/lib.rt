@@ -19,14 +19,14 @@ pub struct Written {
 }
 
 // Document 02, change 3: the text with names.
-pub fn write(table: &[u32], n: u32, text: &mut [u8]) -> Written
+pub fn write(table: &[u16], n: u32, text: &mut [u8]) -> Written
     ensures { λ r. ⌜ writeMeant r (now (text .exit)) ≡ writeOf (now (table .entry)) n (now (text .entry)) ⌝ }
 {
     write_in(Dialect::Names, table, n, text)
 }
 
 // Document 02, change 7: the text in numbers.
-pub fn write_numbers(table: &[u32], n: u32, text: &mut [u8]) -> Written
+pub fn write_numbers(table: &[u16], n: u32, text: &mut [u8]) -> Written
     ensures { λ r. ⌜ writeMeant r (now (text .exit)) ≡ writeNumbersOf (now (table .entry)) n (now (text .entry)) ⌝ }
 {
     write_in(Dialect::Numbers, table, n, text)
@@ -40,7 +40,7 @@ enum Dialect {
 
 // 7, then 11 where the text is over 3,000 bytes or over the lent buffer. The text is measured by putting it into none of the lent
 // bytes, so that a refusal writes none.
-fn write_in(dialect: Dialect, table: &[u32], n: u32, text: &mut [u8]) -> Written
+fn write_in(dialect: Dialect, table: &[u16], n: u32, text: &mut [u8]) -> Written
     ensures { λ r. ⌜ writeMeant r (now (text .exit)) ≡ writeIn (dialectMeant dialect) (now (table .entry)) n (now (text .entry)) ⌝ }
 {
     if !term::accepts(table, n) {
@@ -62,7 +62,7 @@ fn write_in(dialect: Dialect, table: &[u32], n: u32, text: &mut [u8]) -> Written
 }
 
 // The text of the whole table, from the first byte on.
-fn put_text(dialect: Dialect, table: &[u32], n: u32, out: &mut [u8]) -> usize
+fn put_text(dialect: Dialect, table: &[u16], n: u32, out: &mut [u8]) -> usize
     requires { ⌜ Accepted (now table) n ⌝ }
     ensures { λ r. ⌜ TextPut (dialectMeant dialect) (now (table .entry)) n (now (out .entry)) r (now (out .exit)) ⌝ }
 {

@@ -9,7 +9,7 @@ ghost use Rattle.writer.specs.NumberParts.{depthUnder, nodePart, depthIn
 use crate::put::put_byte;
 
 // How many binders are around a node, from how many are around its parent. Depths are told by node.
-fn depth_of(table: &[u32], n: u32, node: u32, depths: &[u32; 3001]) -> u32
+fn depth_of(table: &[u16], n: u32, node: u32, depths: &[u32; 3001]) -> u32
     requires { ⌜ DepthRoom (tableIn (now table) n) node (now depths) ⌝ }
     ensures { λ r. ⌜ r ≡ depthUnder (tableIn (now (table .entry)) n) (depthIn (now (depths .entry))) node ⌝ }
 {
@@ -24,7 +24,7 @@ fn depth_of(table: &[u32], n: u32, node: u32, depths: &[u32; 3001]) -> u32
 
 // The part of a node: `\`, `@`, or how many binders stand between a variable and its own.
 fn put_node(
-    table: &[u32],
+    table: &[u16],
     n: u32,
     node: u32,
     depths: &[u32; 3001],
@@ -48,7 +48,7 @@ fn put_node(
 }
 
 // The whole text. Each node's parent and binder come before it, so their depths are known.
-pub(crate) fn put_numbers(table: &[u32], n: u32, out: &mut [u8]) -> usize
+pub(crate) fn put_numbers(table: &[u16], n: u32, out: &mut [u8]) -> usize
     requires { ⌜ Accepted (now table) n ⌝ }
     ensures { λ r. ⌜ TextPut numbers (now (table .entry)) n (now (out .entry)) r (now (out .exit)) ⌝ }
 {

@@ -9,7 +9,7 @@ use crate::put::put_byte;
 use crate::put::put_name;
 
 // The part whose root is a node. Nodes are numbered in preorder, so a body or a function is the node after it.
-pub(crate) fn put_part(table: &[u32], n: u32, node: u32, out: &mut [u8], at: usize) -> usize
+pub(crate) fn put_part(table: &[u16], n: u32, node: u32, out: &mut [u8], at: usize) -> usize
     requires { ⌜ ((t : Term) × ((bs : List ℕ) × Puttable (now table) n node false at t bs)) ⌝ }
     ensures { λ r. ⌜ PartPut (now (table .entry)) n node false at (now (out .entry)) r (now (out .exit)) ⌝ }
 {
@@ -32,7 +32,7 @@ pub(crate) fn put_part(table: &[u32], n: u32, node: u32, out: &mut [u8], at: usi
 
 // The same in brackets, where they are wanted.
 fn put_enclosed(
-    table: &[u32],
+    table: &[u16],
     n: u32,
     node: u32,
     brackets: bool,

@@ -40,14 +40,14 @@ use texts::written_told;
 
 // The reader's answer, and the table slice as it leaves it; the same of the number dialect.
 #[no_mangle]
-pub extern "C" fn yildreuz_read(text: &[u8], table: &mut [u32]) -> HostReading
+pub extern "C" fn yildreuz_read(text: &[u8], table: &mut [u16]) -> HostReading
     ensures { λ r. ⌜ (r, now (table .exit)) ≡ readTold (readOf (now (text .entry)) (now (table .entry))) ⌝ }
 {
     reading_told(reader::read(text, table))
 }
 
 #[no_mangle]
-pub extern "C" fn yildreuz_read_numbers(text: &[u8], table: &mut [u32]) -> HostReading
+pub extern "C" fn yildreuz_read_numbers(text: &[u8], table: &mut [u16]) -> HostReading
     ensures { λ r. ⌜ (r, now (table .exit)) ≡ readTold (readNumbersOf (now (text .entry)) (now (table .entry))) ⌝ }
 {
     reading_told(reader::read_numbers(text, table))
@@ -55,14 +55,14 @@ pub extern "C" fn yildreuz_read_numbers(text: &[u8], table: &mut [u32]) -> HostR
 
 // The writer's answer, and the lent bytes as it leaves them; the same of the number dialect.
 #[no_mangle]
-pub extern "C" fn yildreuz_write(table: &[u32], n: u32, text: &mut [u8]) -> HostWritten
+pub extern "C" fn yildreuz_write(table: &[u16], n: u32, text: &mut [u8]) -> HostWritten
     ensures { λ r. ⌜ (r, now (text .exit)) ≡ writeTold (writeOf (now (table .entry)) n (now (text .entry))) ⌝ }
 {
     written_told(writer::write(table, n, text))
 }
 
 #[no_mangle]
-pub extern "C" fn yildreuz_write_numbers(table: &[u32], n: u32, text: &mut [u8]) -> HostWritten
+pub extern "C" fn yildreuz_write_numbers(table: &[u16], n: u32, text: &mut [u8]) -> HostWritten
     ensures { λ r. ⌜ (r, now (text .exit)) ≡ writeTold (writeNumbersOf (now (table .entry)) n (now (text .entry))) ⌝ }
 {
     written_told(writer::write_numbers(table, n, text))
@@ -86,7 +86,7 @@ pub extern "C" fn yildreuz_to_names(text: &[u8], out: &mut [u8]) -> HostWritten
 // Open's answer, its session in numbers, and both slices as it leaves them.
 #[no_mangle]
 pub extern "C" fn yildreuz_open(
-    table: &[u32],
+    table: &[u16],
     n: u32,
     log: &mut [u32],
     tape: &mut [u32],
@@ -114,7 +114,7 @@ enum Move {
 
 // The call itself.
 fn call_made(
-    table: &[u32],
+    table: &[u16],
     n: u32,
     session: Session,
     log: &mut [u32],
@@ -137,7 +137,7 @@ fn call_made(
 
 // The call on the session that a host's numbers stand for, its outcome in numbers. Refused, it gives back the numbers given.
 fn call(
-    table: &[u32],
+    table: &[u16],
     n: u32,
     session: HostSession,
     log: &mut [u32],
@@ -155,7 +155,7 @@ fn call(
 // To a position.
 #[no_mangle]
 pub extern "C" fn yildreuz_go_to(
-    table: &[u32],
+    table: &[u16],
     n: u32,
     session: HostSession,
     log: &mut [u32],
@@ -171,7 +171,7 @@ pub extern "C" fn yildreuz_go_to(
 // Forward by a count.
 #[no_mangle]
 pub extern "C" fn yildreuz_forward(
-    table: &[u32],
+    table: &[u16],
     n: u32,
     session: HostSession,
     log: &mut [u32],
@@ -187,7 +187,7 @@ pub extern "C" fn yildreuz_forward(
 // Forward by a count, or to the first later position that it reaches at which the token stands on a node in a direction.
 #[no_mangle]
 pub extern "C" fn yildreuz_forward_to(
-    table: &[u32],
+    table: &[u16],
     n: u32,
     session: HostSession,
     log: &mut [u32],
@@ -207,7 +207,7 @@ pub extern "C" fn yildreuz_forward_to(
 // Back to the last earlier position at which the token stood on a node in a direction.
 #[no_mangle]
 pub extern "C" fn yildreuz_back_to(
-    table: &[u32],
+    table: &[u16],
     n: u32,
     session: HostSession,
     log: &mut [u32],
@@ -226,7 +226,7 @@ pub extern "C" fn yildreuz_back_to(
 // Back by a count.
 #[no_mangle]
 pub extern "C" fn yildreuz_back(
-    table: &[u32],
+    table: &[u16],
     n: u32,
     session: HostSession,
     log: &mut [u32],
@@ -242,7 +242,7 @@ pub extern "C" fn yildreuz_back(
 // Where the top entry lies in the lent slice. The number goes out through `refusal`.
 #[no_mangle]
 pub extern "C" fn yildreuz_top<'a>(
-    table: &[u32],
+    table: &[u16],
     n: u32,
     session: HostSession,
     log: &'a [u32],

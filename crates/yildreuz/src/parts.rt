@@ -28,7 +28,7 @@ pub(crate) fn list_end(session: Session, list: Which) -> u32
 
 // How many words the top entry has, and the number.
 pub(crate) fn top_size<'a>(
-    table: &[u32],
+    table: &[u16],
     n: u32,
     session: Session,
     log: &'a [u32],

@@ -6,25 +6,25 @@ use Rattle.cases.proofs.show.show_words.Statement.{statement}
 use Rattle.cases.proofs.show.show_words.Tie as tie
 
 abbrev Inv-loop : tie.InvT-loop
-Inv-loop words last₀ times₀ i₀ last times i = Unit
+Inv-loop words run₀ i₀ run i = Unit
 
 abbrev μ-loop : tie.MeasureT-loop
-μ-loop words last₀ times₀ i₀ last times i = length words - i
+μ-loop words run₀ i₀ run i = length words - i
+
+no-run-requires : tie.Need-no-run-requires Inv-loop μ-loop
+no-run-requires c κs = search needs
 
 loop-holds : tie.Need-loop-holds Inv-loop μ-loop
 loop-holds c = search needs
 
-mul-word : tie.Need-mul-word Inv-loop μ-loop
-mul-word c = search needs
+mul-with-word : tie.Need-mul-with-word Inv-loop μ-loop
+mul-with-word c = search needs
 
-shared-slice-read-word : tie.Need-shared-slice-read-word Inv-loop μ-loop
-shared-slice-read-word c = search needs
+shared-slice-read-with-word : tie.Need-shared-slice-read-with-word Inv-loop μ-loop
+shared-slice-read-with-word c = search needs
 
-show-run-requires : tie.Need-show-run-requires Inv-loop μ-loop
-show-run-requires c κs = search needs
-
-wrapping-add-u32-requires : tie.Need-wrapping-add-u32-requires Inv-loop μ-loop
-wrapping-add-u32-requires c κs = search needs
+with-word-requires : tie.Need-with-word-requires Inv-loop μ-loop
+with-word-requires c κs = search needs
 
 add-i : tie.Need-add-i Inv-loop μ-loop
 add-i c = search needs
@@ -35,8 +35,8 @@ loop-less c = search needs
 loop-again : tie.Need-loop-again Inv-loop μ-loop
 loop-again c = search needs
 
-show-run-requires-2 : tie.Need-show-run-requires-2 Inv-loop μ-loop
-show-run-requires-2 c κs = search needs
+show-run-requires : tie.Need-show-run-requires Inv-loop μ-loop
+show-run-requires c κs = search needs
 
 returns : tie.Need-returns Inv-loop μ-loop
 returns c = search needs
@@ -47,13 +47,13 @@ show-words-spec =
     (tie.spec
     Inv-loop
     μ-loop
+    no-run-requires
     loop-holds
-    mul-word
-    shared-slice-read-word
-    show-run-requires
-    wrapping-add-u32-requires
+    mul-with-word
+    shared-slice-read-with-word
+    with-word-requires
     add-i
     loop-less
     loop-again
-    show-run-requires-2
+    show-run-requires
     returns)

@@ -5,17 +5,17 @@ use Rattle.reader.proofs.Laid.{whole-layable, whole-laid}
 use Rattle.reader.proofs.layout.lay_out.Statement.{statement}
 use Rattle.reader.proofs.layout.lay_out.Tie as tie
 
-slice-aggregate-rows : tie.Need-slice-aggregate-rows
-slice-aggregate-rows c = search needs
+slice-aggregate-columns : tie.Need-slice-aggregate-columns
+slice-aggregate-columns c = search needs
 
-rows-requires : tie.Need-rows-requires
-rows-requires c κs = let w = c .before .before .before .before .pre in (omega arith, (w .0, whole-layable (w .1)))
+columns-requires : tie.Need-columns-requires
+columns-requires c κs = let w = c .before .before .before .before .pre in (omega arith, (w .0, whole-layable (w .1)))
 
 same-length : tie.Need-same-length
 same-length c = search needs
 
 returns : tie.Need-returns
-returns c = λ t w. whole-laid _ (c .before .before .before .before .before .before .before .before .args .table .now) _ _ _ t (w .room) (c .before .before .before .rows .ensures t (whole-layable w))
+returns c = λ t w. whole-laid _ (c .before .before .before .before .before .before .before .before .args .table .now) _ _ _ _ t (w .all) (w .room) (c .before .before .before .columns .ensures t (whole-layable w))
 
 pub lay-out-spec : {M : Type 1} → statement M
-lay-out-spec = tie.close (tie.spec slice-aggregate-rows rows-requires same-length returns)
+lay-out-spec = tie.close (tie.spec slice-aggregate-columns columns-requires same-length returns)

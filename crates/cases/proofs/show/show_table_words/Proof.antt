@@ -1,22 +1,24 @@
--- Each pass keeps the length of the numbers, and leaves a byte less.
-use mathlib.Core.Path.{_≡_}
+-- Each pass leaves a word less.
 use Prim.Native.Nat.{_-_}
 use lib.ListN.{length}
 use borrow.Author.Needs.{needs}
-use Rattle.cases.proofs.written.widen.Statement.{statement}
-use Rattle.cases.proofs.written.widen.Tie as tie
+use Rattle.cases.proofs.show.show_table_words.Statement.{statement}
+use Rattle.cases.proofs.show.show_table_words.Tie as tie
 
 abbrev Inv-loop : tie.InvT-loop
-Inv-loop bytes numbers₀ k i₀ numbers i = length numbers ≡ length numbers₀
+Inv-loop words run₀ i₀ run i = Unit
 
 abbrev μ-loop : tie.MeasureT-loop
-μ-loop bytes numbers₀ k i₀ numbers i = k - i
+μ-loop words run₀ i₀ run i = length words - i
 
-least-requires : tie.Need-least-requires Inv-loop μ-loop
-least-requires c κs = search needs
+no-run-requires : tie.Need-no-run-requires Inv-loop μ-loop
+no-run-requires c κs = search needs
 
 loop-holds : tie.Need-loop-holds Inv-loop μ-loop
 loop-holds c = search needs
+
+mul-wide : tie.Need-mul-wide Inv-loop μ-loop
+mul-wide c = search needs
 
 shared-slice-read-wide : tie.Need-shared-slice-read-wide Inv-loop μ-loop
 shared-slice-read-wide c = search needs
@@ -24,11 +26,8 @@ shared-slice-read-wide c = search needs
 wide-requires : tie.Need-wide-requires Inv-loop μ-loop
 wide-requires c κs = search needs
 
-mul-numbers : tie.Need-mul-numbers Inv-loop μ-loop
-mul-numbers c = search needs
-
-slice-write-numbers : tie.Need-slice-write-numbers Inv-loop μ-loop
-slice-write-numbers c = search needs
+with-word-requires : tie.Need-with-word-requires Inv-loop μ-loop
+with-word-requires c κs = search needs
 
 add-i : tie.Need-add-i Inv-loop μ-loop
 add-i c = search needs
@@ -39,26 +38,26 @@ loop-less c = search needs
 loop-again : tie.Need-loop-again Inv-loop μ-loop
 loop-again c = search needs
 
-same-length : tie.Need-same-length Inv-loop μ-loop
-same-length c = search needs
+show-run-requires : tie.Need-show-run-requires Inv-loop μ-loop
+show-run-requires c κs = search needs
 
 returns : tie.Need-returns Inv-loop μ-loop
 returns c = search needs
 
-pub widen-spec : {M : Type 1} → statement M
-widen-spec =
+pub show-table-words-spec : {M : Type 1} → statement M
+show-table-words-spec =
     tie.close
     (tie.spec
     Inv-loop
     μ-loop
-    least-requires
+    no-run-requires
     loop-holds
+    mul-wide
     shared-slice-read-wide
     wide-requires
-    mul-numbers
-    slice-write-numbers
+    with-word-requires
     add-i
     loop-less
     loop-again
-    same-length
+    show-run-requires
     returns)
