@@ -32,7 +32,7 @@ abbrev pub joined : List (List ℕ) → List ℕ
 joined [] = []
 joined (c ∷ cs) = c ++ joined cs
 
--- How a table lies in a slice: in the rows that document 01 lists, or in columns, as every call has it now.
+-- How a table lies in a slice: in the rows that document 01 lists, or in columns, as every call has it.
 pub data Layout : Type 0 where
   rows columns : Layout
 
