@@ -5,8 +5,9 @@
 
 Texts are closed terms, written with blanks and brackets that the grammar permits or in the number dialect, and damaged ones; tables, slices and sessions are
 those that the calls left, and damaged ones, tables also with another n, in rows where columns belong, and short of words; terms are written, and texts
-converted, into about as many bytes as the result has; the visits looked for are mostly of nodes that the token comes to. Every number of every answer is compared, every word or byte of what is lent, and those that stand before and after
-it. At the end every stop and every refusal must have come up, from each call that gives it. First, what the wrapper itself must refuse.
+converted, into about as many bytes as the result has; the visits looked for are mostly of nodes that the token comes to. Every number of every answer is
+compared, every word or byte of what is lent, and those that stand before and after it. At the end every stop and every refusal must have come up, from each
+call that gives it. First, what the wrapper itself must refuse.
 """
 import pathlib
 import random

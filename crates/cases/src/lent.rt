@@ -130,7 +130,7 @@ fn rewrite(what: Change, lent: &mut [u32], k: u32, word: u32) {
     }
 }
 
-// A number as a table's word. None comes here that is greater than such a word (`greatest_on`).
+// A number as a table's word. None comes here that is greater than such a word (`greatest_on`; a tower's are below 3,010).
 fn narrow(word: u32) -> u16 {
     (word % 65536) as u16
 }

@@ -5,16 +5,16 @@ use Prim.Native.Nat.{ℕ, zero, suc, _+_, _*_, _≤_, _<_}
 use native.Mathlib.Nat.{suc-add, zero-add, add-zero}
 use native.Mathlib.Omega.{arith}
 use native.Mathlib.Decide.{decLe}
-use lib.ListN.{length, getD, drop, length-append, length-drop, List·getD-append}
-use lib.Seq.{take-at, drop-at}
+use lib.ListN.{length, getD, take, drop, length-append, length-drop, take-append-drop, List·getD-append}
+use lib.Seq.{take-at, drop-at, getD-take, ext-getD, length-take-le}
 use borrow.Author.Tests.{le-leb, lt-leb}
 use Rattle.term.specs.Term.{Term, var, lam, app, size}
 use Rattle.term.specs.Table.{row, rowsOf, rows, columns, wordsOf, tableOf, Table, wordIn, tableBy, tableIn}
 use Rattle.term.specs.Rows.{Row, RowsIn}
-use Rattle.term.specs.Accepted.{isTable, accepted}
-use Rattle.term.specs.ByRows.{SameFields, rowsFrom, byRows, SameLength, sight, sightBy, SameSight}
+use Rattle.term.specs.Accepted.{Accepted, isTable, accepted}
+use Rattle.term.specs.ByRows.{SameFields, rowsFrom, byRows, SameLength, AcceptedByRows, SameAccepted, sight, sightBy, SameSight}
 use Rattle.term.proofs.Table.{fieldOf, field-is, word-at, word-short, word-beyond}
-use Rattle.term.proofs.Columns.{table-length, table-stands}
+use Rattle.term.proofs.Columns.{in-a-column, table-length, table-size, table-stands}
 
 -- The rows of some nodes: how many words they have, which word is which field, and one run of nodes after another.
 module _ (T : Table) where
@@ -136,8 +136,63 @@ term-by-rows t rest =
     (rows-made (tableIn w (size t)) t [] 0 0 0 (table-stands w (size t) t (sym (take-at (tableOf t) rest (5 * size t) (table-length t))) l))
     (drop-at (tableOf t) rest (5 * size t) (table-length t))
 
+-- Of a table alone they are the term's rows,
+whole-by-rows : (t : Term) → byRows (tableOf t) (size t) ≡ wordsOf rows t
+whole-by-rows t = ap (λ u. byRows u (size t)) (sym (append-nil (tableOf t))) ∙ term-by-rows t [] ∙ append-nil (wordsOf rows t)
+
+words-length : (t : Term) → length (wordsOf rows t) ≡ 5 * size t
+words-length t = ap length (sym (whole-by-rows t)) ∙ same-length (tableOf t) (size t) ∙ table-length t
+
 pub same-fields : SameFields
 unfolding tableOf
-same-fields t f i b =
-    word-by-rows (tableOf t) (size t) i f b
-    ∙ ap (λ u. wordIn rows u (size t) i f) (ap (λ u. byRows u (size t)) (sym (append-nil (tableOf t))) ∙ term-by-rows t [] ∙ append-nil (wordsOf rows t))
+same-fields t f i b = word-by-rows (tableOf t) (size t) i f b ∙ ap (λ u. wordIn rows u (size t) i f) (whole-by-rows t)
+
+-- and slices with the same rows have the same columns.
+same-columns : (w u : List ℕ) (n : ℕ) → 5 * n ≤ length w → 5 * n ≤ length u → byRows w n ≡ byRows u n → take (5 * n) w ≡ take (5 * n) u
+same-columns w u n l m e = ext-getD 0 (take (5 * n) w) (take (5 * n) u) (length-take-le (5 * n) w l ∙ sym (length-take-le (5 * n) u m)) λ k b.
+    let h : k < 5 * n = omega (arith, length-take-le (5 * n) w l) in
+    let x = in-a-column 5 n k h in
+    getD-take (5 * n) w k 0 h ∙ ap (λ q. getD w q 0) (x .4) ∙ sym (word-at columns w n (x .1) (x .0) l (x .3))
+    ∙ word-by-rows w n (suc (x .1)) (x .0) (x .2) ∙ ap (λ v. wordIn rows v n (suc (x .1)) (x .0)) e ∙ sym (word-by-rows u n (suc (x .1)) (x .0) (x .2))
+    ∙ word-at columns u n (x .1) (x .0) m (x .3) ∙ ap (λ q. getD u q 0) (sym (x .4)) ∙ sym (getD-take (5 * n) u k 0 h)
+
+module _ (w : List ℕ) (n : ℕ) where
+  -- a table in front of the words behind it, by rows
+  rows-before : (t : Term) → size t ≡ n → byRows (tableOf t ++ drop (5 * n) w) n ≡ wordsOf rows t ++ drop (5 * n) w
+  rows-before t e = ap (byRows (tableOf t ++ drop (5 * n) w)) (sym e) ∙ term-by-rows t (drop (5 * n) w)
+
+  accepted-by-rows : Accepted w n → AcceptedByRows (byRows w n) n
+  accepted-by-rows A =
+      let t = A .term in
+      let e : size t ≡ n = table-size w n t (A .same) (A .long) in
+      let whole : w ≡ tableOf t ++ drop (5 * n) w = sym (take-append-drop (5 * n) w) ∙ ap (λ u. u ++ drop (5 * n) w) (sym (A .same)) in
+      record {
+        some-node = A .some-node;
+        few-nodes = A .few-nodes;
+        long = omega (arith, A .long, same-length w n);
+        term = t;
+        closed = A .closed;
+        same = sym (ap (λ u. take (5 * n) (byRows u n)) whole ∙ ap (take (5 * n)) (rows-before t e)
+            ∙ take-at (wordsOf rows t) (drop (5 * n) w) (5 * n) (omega (arith, words-length t)));
+      }
+
+  by-rows-accepted : AcceptedByRows (byRows w n) n → Accepted w n
+  by-rows-accepted B =
+      let t = B .term in
+      let l : 5 * n ≤ length w = omega (arith, B .long, same-length w n) in
+      let e : size t ≡ n = omega (arith, words-length t, ap length (B .same), length-take-le (5 * n) (byRows w n) (B .long)) in
+      let behind : drop (5 * n) (byRows w n) ≡ drop (5 * n) w = ap (drop (5 * n)) (long-rows w n l) ∙ drop-at (rowsFrom (tableIn w n) 0 n) (drop (5 * n) w) (5 * n) (rows-length (tableIn w n) 0 n) in
+      let whole : byRows (tableOf t ++ drop (5 * n) w) n ≡ byRows w n =
+      rows-before t e ∙ ap₂ (λ r u. r ++ u) (B .same) (sym behind) ∙ take-append-drop (5 * n) (byRows w n) in
+      record {
+        some-node = B .some-node;
+        few-nodes = B .few-nodes;
+        long = l;
+        term = t;
+        closed = B .closed;
+        same = sym (take-at (tableOf t) (drop (5 * n) w) (5 * n) (omega (arith, table-length t)))
+            ∙ same-columns (tableOf t ++ drop (5 * n) w) w n (omega (arith, length-append (tableOf t) (drop (5 * n) w), table-length t)) l whole;
+      }
+
+pub same-accepted : SameAccepted
+same-accepted w n = (accepted-by-rows w n, by-rows-accepted w n)

@@ -23,7 +23,7 @@ pub record Accepted (w : List ℕ) (n : ℕ) : Type 0 where
   pub closed : Closed term
   pub same : tableOf term ≡ take (5 * n) w
 
--- The same as a test, which reads the only term that the rows allow. A part of it, and the node after that part:
+-- The same as a test, which reads the only term that the table's words allow. A part of it, and the node after that part:
 pub record Part : Type 0 where
   pub term : Term
   pub next : ℕ

@@ -1,13 +1,14 @@
 -- Document 02, change 8: "each field of each node is the old one". The columns of a term beside its rows, and those of any slice. Theorems of the same names: proofs/ByRows.antt.
 use mathlib.Core.Path.{_≡_}
+use mathlib.Core.Logic.{_↔_}
 use mathlib.Core.Bool.{Bool, cond}
 use mathlib.Core.List.{List, [], _++_}
-use Prim.Native.Nat.{ℕ, zero, suc, _*_, _<_}
-use lib.ListN.{length, drop}
+use Prim.Native.Nat.{ℕ, zero, suc, _*_, _≤_, _<_}
+use lib.ListN.{length, take, drop}
 use lib.Dec.{leb}
-use Rattle.term.specs.Term.{Term, size}
+use Rattle.term.specs.Term.{Term, size, Closed}
 use Rattle.term.specs.Table.{row, Layout, rows, columns, wordsOf, Table, wordIn, tableBy, tableIn}
-use Rattle.term.specs.Accepted.{isTable, accepted}
+use Rattle.term.specs.Accepted.{mostNodes, Accepted, isTable, accepted}
 
 -- Each of the five fields of each node in the columns of a term is that of its rows, whatever the node's number.
 abbrev pub SameFields : Type 0
@@ -24,6 +25,19 @@ byRows w n = cond (leb (5 * n) (length w)) (rowsFrom (tableIn w n) 0 n ++ drop (
 
 abbrev pub SameLength : Type 0
 SameLength = (w : List ℕ) (n : ℕ) → length (byRows w n) ≡ length w
+
+-- Number 7 in words, of rows: as `Accepted` has it, with the rows of a term for its table.
+pub record AcceptedByRows (w : List ℕ) (n : ℕ) : Type 0 where
+  pub some-node : 1 ≤ n
+  pub few-nodes : n ≤ mostNodes
+  pub long : 5 * n ≤ length w
+  pub term : Term
+  pub closed : Closed term
+  pub same : wordsOf rows term ≡ take (5 * n) w
+
+-- It agrees: a slice is accepted exactly where its rows are, and were.
+abbrev pub SameAccepted : Type 0
+SameAccepted = (w : List ℕ) (n : ℕ) → Accepted w n ↔ AcceptedByRows (byRows w n) n
 
 -- All that a call sees of a table that it is lent: its fields, and whether number 7 lets it pass.
 pub record Sight : Type 0 where
