@@ -1,21 +1,15 @@
 -- Words put into columns: runs of them one behind the other in each column, whichever is put first, and whole columns one behind the other.
-use mathlib.Core.Path.{_≡_, refl, sym, ap, ap₂, _∙_}
+use mathlib.Core.Path.{_≡_, refl, ap, ap₂, _∙_}
 use mathlib.Core.List.{List, [], _∷_, _++_}
 use Prim.Native.Nat.{ℕ, suc, _+_, _≤_}
 use native.Mathlib.Omega.{arith}
 use lib.ListN.{length, set, length-append}
 use lib.Seq.{sets, length-sets}
 use Rattle.term.specs.Table.{joined}
-use Rattle.term.proofs.Stores.{sets-append}
+use Rattle.term.proofs.Stores.{run-on}
 use Rattle.term.proofs.Columns.{Long, count}
 use Rattle.reader.specs.Layout.{columnsPut}
 use Rattle.reader.proofs.Moved.{set-sets-before}
-
--- a run of stores before another, made after it
-sets-before : (o : List ℕ) (i j : ℕ) (vs ws : List ℕ) → j ≡ i + length vs → sets (sets o j ws) i vs ≡ sets o i (vs ++ ws)
-sets-before o i j [] ws e = let h : j ≡ i = omega arith in rw h
-sets-before o i j (v ∷ vs) ws e =
-    ap (λ l. sets l (suc i) vs) (set-sets-before o j ws i v (omega arith)) ∙ sets-before (set o i v) (suc i) j vs ws (omega arith)
 
 -- two runs apart, in either order
 sets-apart : (o : List ℕ) (i j : ℕ) (vs ws : List ℕ) → i + length vs ≤ j → sets (sets o j ws) i vs ≡ sets (sets o i vs) j ws
@@ -68,7 +62,7 @@ module _ (n : ℕ) where
   put-on o at m k (c ∷ cs) (d ∷ ds) b r =
       ap₂ (λ l j. columnsPut n l j ds) (put-later (sets o at c) (at + m) (n + at) d cs (omega (arith, b .1))) (let e : n + (at + m) ≡ n + at + m = omega arith in e)
       ∙ put-on (sets (sets o at c) (at + m) d) (n + at) m k cs ds (b .2) r
-      ∙ ap (λ l. columnsPut n l (n + at) (beside cs ds)) (ap (λ j. sets (sets o at c) (at + j) d) (sym (b .0)) ∙ sym (sets-append o at c d))
+      ∙ ap (λ l. columnsPut n l (n + at) (beside cs ds)) (run-on o (sets o at c) (sets (sets o at c) (at + m) d) at (at + m) c d refl (omega (arith, b .0)) refl)
 
   -- and the first after the second
   pub put-before : (o : List ℕ) (at m k : ℕ) (cs ds : List (List ℕ)) → Beside m k cs ds → m + k ≤ n
@@ -80,12 +74,10 @@ module _ (n : ℕ) where
       ap (λ l. columnsPut n l (n + at) cs) (put-later (sets o (at + m) d) at (n + (at + m)) c ds (omega (arith, b .0)))
       ∙ ap (λ j. columnsPut n (columnsPut n (sets (sets o (at + m) d) at c) j ds) (n + at) cs) (let e : n + (at + m) ≡ n + at + m = omega arith in e)
       ∙ put-before (sets (sets o (at + m) d) at c) (n + at) m k cs ds (b .2) r
-      ∙ ap (λ l. columnsPut n l (n + at) (beside cs ds)) (sets-before o at (at + m) c d (omega (arith, b .0)))
+      ∙ ap (λ l. columnsPut n l (n + at) (beside cs ds)) (sets-apart o at (at + m) c d (omega (arith, b .0)) ∙ run-on o (sets o at c) (sets (sets o at c) (at + m) d) at (at + m) c d refl (omega (arith, b .0)) refl)
 
   -- Whole columns lie one behind the other.
   pub put-whole : (o : List ℕ) (at : ℕ) (cs : List (List ℕ)) → Long n cs → columnsPut n o at cs ≡ sets o at (joined cs)
   put-whole o at [] l = refl
   put-whole o at (c ∷ cs) l =
-      put-whole (sets o at c) (n + at) cs (l .1)
-      ∙ ap (λ j. sets (sets o at c) j (joined cs)) (let e : n + at ≡ at + length c = omega (arith, l .0) in e)
-      ∙ sym (sets-append o at c (joined cs))
+      run-on o (sets o at c) (columnsPut n (sets o at c) (n + at) cs) at (n + at) c (joined cs) refl (omega (arith, l .0)) (put-whole (sets o at c) (n + at) cs (l .1))

@@ -1,6 +1,5 @@
 -- A table in a slice: where a node's word lies, what stands at a node that is not there, and which words are read.
 use mathlib.Core.Path.{_≡_, refl, sym, ap, _∙_}
-use mathlib.Core.Bool.{Bool, true, false, _&&_, cond}
 use mathlib.Core.List.{List}
 use Prim.Native.Nat.{ℕ, zero, suc, _+_, _-_, _*_, _≤_, _<_}
 use native.Mathlib.Nat.{suc-mul, mul-le-mul-right}
@@ -8,7 +7,6 @@ use native.Mathlib.Omega.{arith}
 use native.Mathlib.Decide.{decLe}
 use lib.ListN.{length, getD, take, length-take}
 use lib.Seq.{getD-take, length-take-le}
-use lib.Dec.{leb}
 use borrow.Author.Tests.{le-leb, lt-leb, lt-ltb, le-ltb}
 use Rattle.term.specs.Table.{Layout, columns, indexIn, Table, wordIn, tableIn, kindOf, nothing, kindAt}
 use Rattle.term.specs.Rows.{Row}
@@ -26,11 +24,10 @@ module _ (L : Layout) (w : List ℕ) (n : ℕ) where
 
   pub word-beyond : (i f : ℕ) → n < i → wordIn L w n i f ≡ 0
   word-beyond zero f h = refl
-  word-beyond (suc i) f h = ap (λ b. cond (leb (5 * n) (length w) && b) (getD w (indexIn L n i f) 0) 0) (le-ltb i n (omega arith)) ∙ none (leb (5 * n) (length w))
-    where
-      none : (b : Bool) → cond (b && false) (getD w (indexIn L n i f) 0) 0 ≡ 0
-      none true = refl
-      none false = refl
+  word-beyond (suc i) f h = elim (decLe (5 * n) (length w)) [
+    | yes l ↦ rw (le-leb (5 * n) (length w) l, le-ltb i n (omega arith))
+    | no l ↦ word-short (suc i) f (omega arith)
+  ]
 
   pub word-at : (i f : ℕ) → 5 * n ≤ length w → i < n → wordIn L w n (suc i) f ≡ getD w (indexIn L n i f) 0
   word-at i f l h = rw (le-leb (5 * n) (length w) l, lt-ltb i n h)
