@@ -9,7 +9,7 @@ use Rattle.term.specs.Accepted.{Accepted}
 use Rattle.machine.specs.Machine.{State}
 use Rattle.machine.specs.Good.{Good}
 use Rattle.calls.specs.Session.{refused, Outcome, Given}
-use Rattle.calls.specs.Stops.{Moment, moment, Room, room}
+use Rattle.calls.specs.Stops.{Moment, momentOf, Room, room}
 use Rattle.calls.specs.Calls.{longest, callTests, callNumber, Enters, refusedOutcome, wound}
 use Rattle.calls.specs.Moves.{Move, outcomeOf, ownTests, ownNumber, wayOf, runOf}
 use Rattle.calls.specs.Demand.{givenTo, RefusedCall}
@@ -47,12 +47,12 @@ module _ (m : Move) (g : Given) where
 
   -- A call that enters at a state, and is not turned away, winds from it.
   pub moved : (s : State) → Enters g s → ownNumber m (g .n) (g .session .position) ≡ none
-      → outcomeOf m g ≡ wound (room (g .log) (g .tape)) (runOf m (tableIn (g .table) (g .n)) (room (g .log) (g .tape)) (moment s (g .session .position)))
+      → outcomeOf m g ≡ wound (room (g .log) (g .tape)) (runOf m (tableIn (g .table) (g .n)) (room (g .log) (g .tape)) (momentOf (g .session) s))
   moved s h o = laws m .shape g ∙ rw (number-by, enters-unrefused g s h, o, state-given g s h)
 
   -- What holds of a refusal and of its walk holds of its answer.
   module _ (P : Outcome → Type 0) (refuses : (k : ℕ) → P (refusedOutcome k g))
-      (runs : (s : State) → Enters g s → P (wound (room (g .log) (g .tape)) (runOf m (tableIn (g .table) (g .n)) (room (g .log) (g .tape)) (moment s (g .session .position))))) where
+      (runs : (s : State) → Enters g s → P (wound (room (g .log) (g .tape)) (runOf m (tableIn (g .table) (g .n)) (room (g .log) (g .tape)) (momentOf (g .session) s)))) where
     pub each-answer : P (outcomeOf m g)
     each-answer = by-call (callNumber g) refl
       where
@@ -65,16 +65,16 @@ module _ (m : Move) (g : Given) where
         by-call none e = by-own e (ownNumber m (g .n) (g .session .position)) refl
 
   pub each-outcome : (P : Outcome → Type 0) → ((k : ℕ) → P (refusedOutcome k g))
-      → ((s : State) → Enters g s → OfWalks (wayOf m (g .session .position)) (tableIn (g .table) (g .n)) (room (g .log) (g .tape)) (λ run. P (wound (room (g .log) (g .tape)) run)) (moment s (g .session .position)))
+      → ((s : State) → Enters g s → OfWalks (wayOf m (g .session .position)) (tableIn (g .table) (g .n)) (room (g .log) (g .tape)) (λ run. P (wound (room (g .log) (g .tape)) run)) (momentOf (g .session) s))
       → P (outcomeOf m g)
   each-outcome P refuses walks =
       each-answer P refuses
-      (λ s h. laws m .walks (tableIn (g .table) (g .n)) (room (g .log) (g .tape)) (λ run. P (wound (room (g .log) (g .tape)) run)) (moment s (g .session .position)) (walks s h))
+      (λ s h. laws m .walks (tableIn (g .table) (g .n)) (room (g .log) (g .tape)) (λ run. P (wound (room (g .log) (g .tape)) run)) (momentOf (g .session) s) (walks s h))
 
   pub refused-unchanged : (k : ℕ) → outcomeOf m g .stop ≡ refused k → RefusedCall g (outcomeOf m g)
   refused-unchanged k =
       each-answer (λ o. o .stop ≡ refused k → RefusedCall g o) (λ j e. as-given j g)
-      (λ s h e. absurd (run-unrefused m (tableIn (g .table) (g .n)) (room (g .log) (g .tape)) (moment s (g .session .position)) k e))
+      (λ s h e. absurd (run-unrefused m (tableIn (g .table) (g .n)) (room (g .log) (g .tape)) (momentOf (g .session) s) k e))
 
 -- A call on a good state laid down in slices that it fits.
 module _ (m : Move) (r : Room) (x : Moment) (fits : Fits r (x .state)) (w : List ℕ) (n : ℕ) (A : Accepted w n) (good : Good (tableIn w n) (x .state))

@@ -8,7 +8,7 @@ use Rattle.term.specs.Facts.{Facts}
 use Rattle.term.proofs.Facts.{accepted-facts}
 use Rattle.machine.specs.Machine.{State}
 use Rattle.calls.specs.Session.{Stop, spent, Given}
-use Rattle.calls.specs.Stops.{forward, back, Moment, moment, Room, room, greatest}
+use Rattle.calls.specs.Stops.{forward, back, Moment, momentOf, Room, room, greatest}
 use Rattle.calls.specs.Winding.{Run, wind}
 use Rattle.calls.specs.Calls.{callNumber, Enters, wound, backOf}
 use Rattle.calls.specs.Visits.{Spot, offTerm, backToOf}
@@ -29,7 +29,7 @@ module _ (g : Given) (s : State) (h : Enters g s) where
   r = room (g .log) (g .tape)
 
   abbrev here : Moment
-  here = moment s (g .session .position)
+  here = momentOf (g .session) s
 
   abbrev given : Standing
   given = record { session = g .session; log = g .log; tape = g .tape }

@@ -3,7 +3,6 @@ use mathlib.Core.Path.{_≡_, refl, ap, _∙_, subst}
 use mathlib.Core.Bool.{Bool, true, false, cond}
 use mathlib.Core.Option.{Option, none, some}
 use Prim.Native.Nat.{ℕ, _+_, _-_, _≤_, min}
-use native.Mathlib.Nat.{zero-add}
 use native.Mathlib.Omega.{arith}
 use lib.Dec.{leb}
 use Rattle.term.specs.Choice.{choose}
@@ -12,7 +11,7 @@ use Rattle.machine.specs.Machine.{State, afterFrom}
 use Rattle.machine.specs.Carried.{carriedOver}
 use Rattle.machine.proofs.Sums.{between-up, between-down}
 use Rattle.calls.specs.Session.{Given}
-use Rattle.calls.specs.Stops.{Way, forward, back, Moment, moment, Room, room}
+use Rattle.calls.specs.Stops.{Way, forward, back, Moment, moment, momentOf, beginning, Room, room}
 use Rattle.calls.specs.Winding.{Run, wind}
 use Rattle.calls.specs.Calls.{stateGiven, callNumber, wound, outcomeBy, windOf, goToOf}
 use Rattle.calls.specs.Allowed.{allowed}
@@ -28,45 +27,43 @@ IsForward back = ⊥
 pub forward-not-back : forward ≡ back → ⊥
 forward-not-back e = subst IsForward e tt
 
-module _ (T : Table) (r : Room) (s₀ : State) (p : ℕ) (s : State) (h : Stood T r s₀ p s) where
+module _ (T : Table) (r : Room) (s₀ : State) (p : ℕ) (s : State) (h : Stood T r s₀ p (moment s p)) where
   abbrev now : Moment
   now = moment s p
 
   module _ (c : ℕ) where
     pub counted : wind forward T r c now .steps ≡ allowed T s₀ r c p
-    counted = forward-counted T r s₀ c now (trail-after T r s₀ (h .trail))
+    counted = forward-counted T r s₀ c now p (h .trail)
 
     -- the states along a call forward
     pub forward-state : (j : ℕ) → j ≤ wind forward T r c now .steps → afterFrom T s₀ (p + j) ≡ some (wind forward T r j now .last .state)
     forward-state j l =
-        trail-after T r s₀
-        (subst (λ i. Trail T r s₀ (p + i) (wind forward T r j now .last .state)) (reaches forward T r c now j l) (forward-on T r s₀ j now p (h .trail) .trail))
+        trail-after T r (beginning s₀)
+        (subst (λ i. Trail T r (beginning s₀) (p + i) (wind forward T r j now .last)) (reaches forward T r c now j l) (forward-on T r (beginning s₀) j now p (h .trail) .trail))
 
-    pub off : Off T r s₀ c p 0 (wind back T r c now)
-    off = rw zero-add at (back-off T r s₀ (h .facts) (h .good) (h .fits) c 0 (h .trail) (λ l. refl))
+    pub off : Off T r (beginning s₀) c p (wind back T r c now)
+    off = back-off T r (beginning s₀) (h .facts) (h .good) (h .fits) c (h .trail) (λ l. refl)
 
     pub forward-arrives : Arrives T r s₀ p (p + allowed T s₀ r c p) (wind forward T r c now)
     forward-arrives = record {
-      trail = subst (λ k. Trail T r s₀ (p + k) (wind forward T r c now .last .state)) counted (on .trail);
-      position-is = on .position-is ∙ ap (λ k. p + k) counted;
+      trail = subst (λ k. Trail T r (beginning s₀) (p + k) (wind forward T r c now .last)) counted (on .trail);
       steps-are = counted ∙ omega arith;
       carried-is = on .carried-is ∙ ap (λ k. carriedOver T s₀ k p) counted ∙ between-up T s₀ (allowed T s₀ r c p) p;
     }
       where
-        on : On T r s₀ p p (wind forward T r c now)
-        on = forward-on T r s₀ c now p (h .trail)
+        on : On T r (beginning s₀) p (wind forward T r c now)
+        on = forward-on T r (beginning s₀) c now p (h .trail)
 
     pub back-arrives : Arrives T r s₀ p (p - min c p) (wind back T r c now)
     back-arrives = record {
       trail = off .trail;
-      position-is = off .position-is ∙ omega arith;
       steps-are = off .steps-are ∙ omega arith;
       carried-is = off .carried-is ∙ between-down T s₀ (min c p) p (p - min c p) (omega arith);
     }
 
   -- and along a call back
   pub back-state : (j : ℕ) → j ≤ p → afterFrom T s₀ (p - j) ≡ some (wind back T r j now .last .state)
-  back-state j l = let e : min j p ≡ j = omega arith in trail-after T r s₀ (subst (λ i. Trail T r s₀ (p - i) (wind back T r j now .last .state)) e (off j .trail))
+  back-state j l = let e : min j p ≡ j = omega arith in trail-after T r (beginning s₀) (subst (λ i. Trail T r (beginning s₀) (p - i) (wind back T r j now .last)) e (off j .trail))
 
   count-takes : (way : Way) (c : ℕ) → Takes T r s₀ way p (course T s₀ r (by way c) p) (wind way T r c now)
   count-takes forward c = record { arrives = forward-arrives c; unhindered = λ x. absurd (forward-not-back x); stop-says = tt }
@@ -89,7 +86,7 @@ unfolding windOf callNumber
 count-shape way c g = refl
 
 -- Two walks that are the same from each state at the session's position are wound alike.
-same-walks : (o : Option ℕ) (st : Option State) (g : Given) (f h : Moment → Run) → ((s : State) → f (moment s (g .session .position)) ≡ h (moment s (g .session .position)))
+same-walks : (o : Option ℕ) (st : Option State) (g : Given) (f h : Moment → Run) → ((s : State) → f (momentOf (g .session) s) ≡ h (momentOf (g .session) s))
     → outcomeBy o st g f ≡ outcomeBy o st g h
 same-walks (some k) st g f h e = refl
 same-walks none (some s) g f h e = ap (wound (room (g .log) (g .tape))) (e s)

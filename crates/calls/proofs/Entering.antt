@@ -15,7 +15,7 @@ use Rattle.machine.specs.Machine.{State}
 use Rattle.machine.specs.Good.{Good}
 use Rattle.machine.proofs.Load.{slice-length}
 use Rattle.calls.specs.Session.{Given}
-use Rattle.calls.specs.Stops.{Moment, moment, Room, room}
+use Rattle.calls.specs.Stops.{Moment, momentOf, Room, room}
 use Rattle.calls.specs.Held.{Holds}
 use Rattle.calls.specs.Calls.{longest, lentNumber, stateGiven, callNumber, Enters, sessionAt, logSlice, tapeSlice}
 use Rattle.calls.specs.Demand.{Standing, givenTo}
@@ -77,7 +77,7 @@ abbrev pub laidDown : Room → Moment → Standing
 laidDown r m = record { session = sessionAt m; log = logSlice r m; tape = tapeSlice r m }
 
 -- What stands is this for a state that it holds.
-pub held-laid-down : (T : Table) (st : Standing) (s : State) → Holds T (st .session) (st .log) (st .tape) s → st ≡ laidDown (room (st .log) (st .tape)) (moment s (st .session .position))
+pub held-laid-down : (T : Table) (st : Standing) (s : State) → Holds T (st .session) (st .log) (st .tape) s → st ≡ laidDown (room (st .log) (st .tape)) (momentOf (st .session) s)
 held-laid-down T st s h = λ i. record {
   session = record { node = h .node-is i; dir = h .dir-is i; position = st .session .position; logLength = h .log-length i; tapeLength = h .tape-length i };
   log = h .log-lies i;

@@ -4,6 +4,7 @@ pub mod Held
 pub mod Unrefused
 pub mod Stops
 pub mod Winds
+pub mod Moments
 pub mod Visits
 pub mod Visited
 pub mod Digits

@@ -10,7 +10,7 @@ use Rattle.machine.specs.Machine.{State}
 use Rattle.machine.specs.Good.{Good}
 use Rattle.machine.specs.Carried.{carriedBetween}
 use Rattle.calls.specs.Session.{Stop, Outcome, Given}
-use Rattle.calls.specs.Stops.{Way, back, Moment, moment, Room, room}
+use Rattle.calls.specs.Stops.{Way, back, Moment, moment, beginning, Room, room}
 use Rattle.calls.specs.Winding.{Run, ended, wind}
 use Rattle.calls.specs.Calls.{stateGiven, callTests, outcomeBy}
 use Rattle.calls.specs.Visits.{foundBy}
@@ -32,17 +32,16 @@ pub record OfWalks (way : Way) (T : Table) (r : Room) (P : Run → Type 0) (m : 
   pub none : P (ended T m Stop.none)
 
 module _ (T : Table) (r : Room) (s₀ : State) where
-  -- The plain machine comes from a good state s₀ that fits the slices to s in p steps, all within the slices.
-  pub record Stood (p : ℕ) (s : State) : Type 0 where
+  -- The plain machine comes from a good state s₀ at position 0 that fits the slices to m in p steps, all within the slices.
+  pub record Stood (p : ℕ) (m : Moment) : Type 0 where
     pub facts : Facts T
     pub good : Good T s₀
     pub fits : Fits r s₀
-    pub trail : Trail T r s₀ p s
+    pub trail : Trail T r (beginning s₀) p m
 
   -- A walk from p to q on that trail.
   pub record Arrives (p q : ℕ) (run : Run) : Type 0 where
-    pub trail : Trail T r s₀ q (run .last .state)
-    pub position-is : run .last .position ≡ q
+    pub trail : Trail T r (beginning s₀) q (run .last)
     pub steps-are : run .steps ≡ (q - p) + (p - q)
     pub carried-is : run .carried ≡ carriedBetween T s₀ p q
 
@@ -55,4 +54,4 @@ module _ (T : Table) (r : Room) (s₀ : State) where
 pub record MoveLaws (m : Move) : Type 1 where
   pub shape : (g : Given) → outcomeOf m g ≡ shaped m g
   pub walks : (T : Table) (r : Room) (P : Run → Type 0) (x : Moment) → OfWalks (wayOf m (x .position)) T r P x → P (runOf m T r x)
-  pub takes : (T : Table) (r : Room) (s₀ : State) (p : ℕ) (s : State) → Stood T r s₀ p s → Takes T r s₀ (wayOf m p) p (course T s₀ r m p) (runOf m T r (moment s p))
+  pub takes : (T : Table) (r : Room) (s₀ : State) (p : ℕ) (s : State) → Stood T r s₀ p (moment s p) → Takes T r s₀ (wayOf m p) p (course T s₀ r m p) (runOf m T r (moment s p))

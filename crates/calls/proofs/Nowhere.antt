@@ -17,7 +17,7 @@ use Rattle.calls.proofs.Retrace.{backed}
 module _ (T : Table) (r : Room) (F : Facts T) (m : Moment) (good : Good T (m .state)) (fits : Fits r (m .state)) where
   -- A walk ends at a good state.
   walk-good : (way : Way) (c : ℕ) → Good T (wind way T r c m .last .state)
-  walk-good forward c = trail-good T r (m .state) F good (forward-on T r (m .state) c m 0 begun .trail)
+  walk-good forward c = trail-good T r m F good (forward-on T r m c m 0 begun .trail)
   walk-good back c = backed T r F c m good fits .good
 
   pub nowhere-found : (way : Way) (d : Dir) (c : ℕ) → seek way T r (spot 0 d) c m ≡ wind way T r c m

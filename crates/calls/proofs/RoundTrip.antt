@@ -10,7 +10,7 @@ use Rattle.term.proofs.Facts.{accepted-facts}
 use Rattle.machine.specs.Machine.{State}
 use Rattle.machine.specs.Carried.{carriedOver}
 use Rattle.calls.specs.Session.{Given}
-use Rattle.calls.specs.Stops.{forward, back, moment, Room, room}
+use Rattle.calls.specs.Stops.{forward, back, Moment, momentOf, Room, room}
 use Rattle.calls.specs.Winding.{Run, wind}
 use Rattle.calls.specs.Calls.{callNumber, Enters, wound, forwardOf}
 use Rattle.calls.specs.Moves.{by}
@@ -31,14 +31,14 @@ module _ (g : Given) (c : ℕ) (s : State) (h : Enters g s) where
   abbrev r : Room
   r = room (g .log) (g .tape)
 
-  abbrev p : ℕ
-  p = g .session .position
+  abbrev here : Moment
+  here = momentOf (g .session) s
 
   abbrev given : Standing
   given = record { session = g .session; log = g .log; tape = g .tape }
 
   abbrev out : Run
-  out = wind forward T′ r c (moment s p)
+  out = wind forward T′ r c here
 
   abbrev home : Run
   home = wind back T′ r (out .steps) (out .last)
@@ -49,28 +49,24 @@ module _ (g : Given) (c : ℕ) (s : State) (h : Enters g s) where
   fits : Fits r s
   fits = enters-fits g s h
 
-  on : On T′ r s 0 p out
-  on = forward-on T′ r s c (moment s p) 0 begun
+  on : On T′ r here 0 out
+  on = forward-on T′ r here c here 0 begun
 
-  trail : Trail T′ r s (out .steps) (out .last .state)
+  trail : Trail T′ r here (out .steps) (out .last)
   trail = rw zero-add at (on .trail)
 
-  off : Off T′ r s (out .steps) (out .steps) p home
-  off = subst (λ q. Off T′ r s (out .steps) (out .steps) p (wind back T′ r (out .steps) (moment (out .last .state) q))) (sym (on .position-is))
-      (back-off T′ r s facts (h .holds .good) fits (out .steps) p trail (λ l. absurd (lt-irrefl (out .steps) l)))
+  off : Off T′ r here (out .steps) (out .steps) home
+  off = back-off T′ r here facts (h .holds .good) fits (out .steps) trail (λ l. absurd (lt-irrefl (out .steps) l))
 
   home-is : laidDown r (home .last) ≡ given
-  home-is = ap₂ (λ u q. laidDown r (moment u q)) (sym state-is) position-is ∙ sym (held-laid-down T′ given s (h .holds))
+  home-is = ap (laidDown r) (sym came) ∙ sym (held-laid-down T′ given s (h .holds))
     where
-      state-is : s ≡ home .last .state
-      state-is = trail-none T′ r s (subst (λ k. Trail T′ r s k (home .last .state)) (omega arith) (off .trail))
-
-      position-is : home .last .position ≡ p
-      position-is = off .position-is ∙ omega arith
+      came : here ≡ home .last
+      came = trail-none T′ r here (subst (λ k. Trail T′ r here k (home .last)) (omega arith) (off .trail))
 
   back-home : backBy g (wound r out) ≡ wound r home
   back-home =
-      laid-moved (by back (out .steps)) r (out .last) (trail-fits T′ r s fits trail) (g .table) (g .n) (h .accepted-table) (trail-good T′ r s facts (h .holds .good) trail)
+      laid-moved (by back (out .steps)) r (out .last) (trail-fits T′ r here fits trail) (g .table) (g .n) (h .accepted-table) (trail-good T′ r here facts (h .holds .good) trail)
       (h .short-log) (h .short-tape) refl
 
   -- Each step taken back carries what it carried.

@@ -17,7 +17,7 @@ use Rattle.calls.specs.Visited.{VisitedAt, LastBefore, FirstAfter}
 use Rattle.calls.specs.Moves.{back-to, forward-to, course}
 use Rattle.calls.proofs.Stops.{IsStop}
 use Rattle.calls.proofs.Winds.{wind-is-stop}
-use Rattle.calls.proofs.Runs.{trail-after, forward-stops}
+use Rattle.calls.proofs.Runs.{forward-stops}
 use Rattle.calls.proofs.Visits.{reaches, sought, sought-back, each-sought, found-not-none}
 use Rattle.calls.proofs.Visited.{stood-on, stands-on, last-found, last-none, next-found, next-none}
 use Rattle.calls.proofs.MoveLaws.{shaped, Stood, Arrives, Takes, MoveLaws}
@@ -26,9 +26,9 @@ use Rattle.calls.proofs.Counts.{forward-not-back, counted, forward-stat
 module _ (T : Table) (r : Room) (s₀ : State) where
   -- the same walk, as found
   found-arrives : {p q : ℕ} {run : Run} → Arrives T r s₀ p q run → Arrives T r s₀ p q (foundBy run)
-  found-arrives a = record { trail = a .trail; position-is = a .position-is; steps-are = a .steps-are; carried-is = a .carried-is }
+  found-arrives a = record { trail = a .trail; steps-are = a .steps-are; carried-is = a .carried-is }
 
-  module _ (p : ℕ) (s : State) (h : Stood T r s₀ p s) (v : Spot) where
+  module _ (p : ℕ) (s : State) (h : Stood T r s₀ p (moment s p)) (v : Spot) where
     abbrev now : Moment
     now = moment s p
 
@@ -85,7 +85,7 @@ module _ (T : Table) (r : Room) (s₀ : State) where
               found-first = λ x. absurd (subst IsStop x (wind-is-stop forward T r c now));
               else-unvisited = λ _. unseen;
               else-there = λ _. refl;
-              else-stops = λ _. subst (λ k. stopAfter T s₀ r (c - k) (p + k) ≡ some (wind forward T r c now .stop)) (counted T r s₀ p s h c) (forward-stops T r s₀ c now (trail-after T r s₀ (h .trail)));
+              else-stops = λ _. subst (λ k. stopAfter T s₀ r (c - k) (p + k) ≡ some (wind forward T r c now .stop)) (counted T r s₀ p s h c) (forward-stops T r s₀ c now p (h .trail));
             };
           }))
         where
@@ -141,7 +141,6 @@ module _ (T : Table) (r : Room) (s₀ : State) where
         (record {
           arrives = record {
             trail = h .trail;
-            position-is = refl;
             steps-are = omega arith;
             carried-is = sym (over-none T s₀ p) ∙ between-down T s₀ 0 p p (add-zero p);
           };

@@ -9,10 +9,10 @@ use lib.Dec.{eqb·suc-zero}
 use borrow.Author.Tests.{eq-eqb, ne-eqb, lt-ltb, le-ltb}
 use Rattle.term.specs.Choice.{first, ifSome}
 use Rattle.term.specs.Table.{Table}
-use Rattle.machine.specs.Machine.{State, step, stepBack}
+use Rattle.machine.specs.Machine.{State, step}
 use Rattle.calls.specs.Session.{Stop, spent, jam, far, start, logFull, tapeFull, found, answer, refused}
 use Rattle.calls.proofs.Order.{first-of-both, first-names}
-use Rattle.calls.specs.Stops.{Way, forward, back, Moment, moment, Room, greatest, logSize, tapeSize, nextBy, isAnswer, haltTests, haltBefore, fullTests, stopBefore}
+use Rattle.calls.specs.Stops.{Way, forward, back, Moment, onward, Room, greatest, logSize, tapeSize, nextBy, isAnswer, haltTests, haltBefore, fullTests, stopBefore}
 
 -- a state's lists are no longer than the slices
 pub record Fits (r : Room) (s : State) : Type 0 where
@@ -45,10 +45,10 @@ module _ (T : Table) where
     start-before-jam e = rw (eqb·suc-zero c, eq-eqb (m .position) 0 e)
 
     module _ (past : m .position ≡ 0 → ⊥) where
-      pub jam-before-full-back : stepBack T (m .state) ≡ none → haltBefore back T (suc c) m ≡ some jam
+      pub jam-before-full-back : nextBy back T m ≡ none → haltBefore back T (suc c) m ≡ some jam
       jam-before-full-back e = rw (eqb·suc-zero c, ne-eqb (m .position) 0 past, e)
 
-      pub no-halt-back : (u : State) → stepBack T (m .state) ≡ some u → haltBefore back T (suc c) m ≡ none
+      pub no-halt-back : (u : Moment) → nextBy back T m ≡ some u → haltBefore back T (suc c) m ≡ none
       no-halt-back u e = rw (eqb·suc-zero c, ne-eqb (m .position) 0 past, e)
 
 -- either way, full slices last
@@ -115,9 +115,9 @@ stop-is-stop back T r count m = first-names IsStop (haltTests back T count m ++ 
 -- what no stop before a step forward says
 module _ (T : Table) (r : Room) where
   pub record Goes (m : Moment) : Type 0 where
-    pub next : State
-    pub steps : step T (m .state) ≡ some next
-    pub fits : Fits r next
+    pub next : Moment
+    pub steps : nextBy forward T m ≡ some next
+    pub fits : Fits r (next .state)
     pub near : m .position ≡ greatest → ⊥
 
   pub goes : (c : ℕ) (m : Moment) → stopBefore forward T r (suc c) m ≡ none → Goes m
@@ -129,9 +129,9 @@ module _ (T : Table) (r : Room) where
       by-step : isAnswer T (m .state) ≡ false → (o : Option State) → step T (m .state) ≡ o → Goes m
       by-step a none n = absurd (halts jam (jam-before-far T c m a n))
       by-step a (some u) n = record {
-        next = u;
-        steps = n;
-        fits = fits-next forward T r (suc c) m e (moment u (suc (m .position))) (rw n);
+        next = onward m u;
+        steps = rw n;
+        fits = fits-next forward T r (suc c) m e (onward m u) (rw n);
         near = λ h. halts far (far-before-full T c m a u n h);
       }
 

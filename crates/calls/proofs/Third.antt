@@ -14,14 +14,14 @@ use Rattle.machine.specs.Machine.{State, startState}
 use Rattle.machine.specs.Good.{Good}
 use Rattle.machine.proofs.After.{start-good}
 use Rattle.calls.specs.Session.{Outcome, Given}
-use Rattle.calls.specs.Stops.{moment, Room, room}
+use Rattle.calls.specs.Stops.{Moment, moment, beginning, Room, room}
 use Rattle.calls.specs.Winding.{Run}
 use Rattle.calls.specs.Calls.{longest, openNumber, wound, openOf}
 use Rattle.calls.specs.Moves.{Move, outcomeOf, ownNumber, wayOf, runOf, course}
 use Rattle.calls.specs.Demand.{Call, own, other, AllPermitted, Standing, leftByOpen, leftBy, givenTo, positionBy, AsPlain, AsOwn, Demanded, ThirdDemand}
 use Rattle.calls.proofs.Unrefused.{lent-unrefused}
 use Rattle.calls.proofs.Stops.{Fits}
-use Rattle.calls.proofs.Runs.{Unhindered, Trail, begun, trail-after, trail-fits, trail-good}
+use Rattle.calls.proofs.Runs.{Unhindered, Trail, begun, trail-after, trail-fits, trail-good, trail-moment}
 use Rattle.calls.proofs.Visits.{Unrefused}
 use Rattle.calls.proofs.Entering.{laidDown}
 use Rattle.calls.proofs.MoveLaws.{Takes}
@@ -47,13 +47,16 @@ module _ (w : List ℕ) (n : ℕ) (s₀ : State) (r : Room) where
   -- what stands is the plain machine's after p steps, all within the slices
   pub record OnTrail (p : ℕ) (st : Standing) : Type 0 where
     pub state : State
-    pub trail : Trail T r s₀ p state
+    pub trail : Trail T r (beginning s₀) p (moment state p)
     pub laid : st ≡ laidDown r (moment state p)
+
+  on-trail : (p : ℕ) (m : Moment) → Trail T r (beginning s₀) p m → OnTrail p (laidDown r m)
+  on-trail p m t = let is : m ≡ moment (m .state) p = trail-moment T r s₀ p t in record { state = m .state; trail = subst (λ x. Trail T r (beginning s₀) p x) is t; laid = ap (laidDown r) is }
 
   as-plain : (p : ℕ) (st : Standing) → OnTrail p st → AsPlain T s₀ r p st
   as-plain p st h = record {
     state = h .state;
-    after-is = trail-after T r s₀ (h .trail);
+    after-is = trail-after T r (beginning s₀) (h .trail);
     session-is = ap (λ x. x .session) (h .laid);
     log-is = ap (λ x. x .log) (h .laid);
     tape-is = ap (λ x. x .tape) (h .laid);
@@ -76,7 +79,7 @@ module _ (w : List ℕ) (n : ℕ) (s₀ : State) (r : Room) where
       stop-says = h .stop-says;
       carried-is = h .arrives .carried-is;
     };
-    stands = record { state = run .last .state; trail = h .arrives .trail; laid = ap (λ q. laidDown r (moment (run .last .state) q)) (h .arrives .position-is) };
+    stands = on-trail (course T s₀ r m p .to) (run .last) (h .arrives .trail);
   }
 
   module _ (b : Begins w n s₀ r) where
@@ -84,18 +87,18 @@ module _ (w : List ℕ) (n : ℕ) (s₀ : State) (r : Room) where
     facts = accepted-facts w n (b .accepted-table)
 
     -- A call on what stands after p steps, with a slice that has the opened table.
-    module _ (m : Move) (u : List ℕ) (same : take (5 * n) u ≡ take (5 * n) w) (p : ℕ) (s : State) (t : Trail T r s₀ p s) where
+    module _ (m : Move) (u : List ℕ) (same : take (5 * n) u ≡ take (5 * n) w) (p : ℕ) (s : State) (t : Trail T r (beginning s₀) p (moment s p)) where
       abbrev given : Given
       given = givenTo u n (laidDown r (moment s p))
 
       fits-now : Fits r s
-      fits-now = trail-fits T r s₀ (b .fits) t
+      fits-now = trail-fits T r (beginning s₀) (b .fits) t
 
       accepted-now : Accepted u n
       accepted-now = accepted-ignores w u n (sym same) (b .accepted-table)
 
       good-now : Good (tableIn u n) s
-      good-now = subst (λ S. Good S s) (sym (ignored u w n same)) (trail-good T r s₀ facts (b .good) t)
+      good-now = subst (λ S. Good S s) (sym (ignored u w n same)) (trail-good T r (beginning s₀) facts (b .good) t)
 
       by-own : (o : Option ℕ) → ownNumber m (T .nodes) p ≡ o → Owned o m p (positionBy T s₀ r m p) given (outcomeOf m given)
       by-own none e =

@@ -16,7 +16,7 @@ use Rattle.machine.specs.Good.{EntryIn, LogIn, TapeIn}
 use Rattle.machine.proofs.Nodes.{not-zero}
 use Rattle.machine.proofs.Load.{slice-front}
 use Rattle.calls.specs.Session.{Given}
-use Rattle.calls.specs.Stops.{Way, forward, Moment, moment, Room, room, logSize, tapeSize}
+use Rattle.calls.specs.Stops.{Way, forward, Moment, momentOf, Room, room, logSize, tapeSize}
 use Rattle.calls.specs.Digits.{digits, HasDigits}
 use Rattle.calls.specs.Weight.{bullets, entryPositions, logPositions, tapePositions, loggedPositions, weight, zeroWords, bulletsGiven, weightGiven, heaviest}
 use Rattle.calls.specs.Winding.{Run, wind}
@@ -147,14 +147,14 @@ module _ (T : Table) (some-node : 1 ≤ T .nodes) (few-nodes : T .nodes ≤ most
 
 -- a walk from the state given, and that state
 from-here : (way : Way) (g : Given) (s : State) → Enters g s → (c : ℕ)
-    → wind way (tableIn (g .table) (g .n)) (room (g .log) (g .tape)) c (moment s (g .session .position)) .peak ≤ heaviest
+    → wind way (tableIn (g .table) (g .n)) (room (g .log) (g .tape)) c (momentOf (g .session) s) .peak ≤ heaviest
 unfolding tableIn
 from-here way g s h c =
     run-light (tableIn (g .table) (g .n)) (h .accepted-table .some-node) (h .accepted-table .few-nodes) way (room (g .log) (g .tape)) (h .short-log) (h .short-tape) c
-    (moment s (g .session .position)) (enters-fits g s h)
+    (momentOf (g .session) s) (enters-fits g s h)
 
 own-light : (g : Given) (s : State) → Enters g s → weight (tableIn (g .table) (g .n)) s ≤ heaviest
-own-light g s h = rw (wind-none forward (tableIn (g .table) (g .n)) (room (g .log) (g .tape)) (moment s (g .session .position))) at (from-here forward g s h 0)
+own-light g s h = rw (wind-none forward (tableIn (g .table) (g .n)) (room (g .log) (g .tape)) (momentOf (g .session) s)) at (from-here forward g s h 0)
 
 -- Every peak fits its word, whatever the call is given.
 pub peak-light : (m : Move) (g : Given) → outcomeOf m g .peak ≤ heaviest
@@ -181,7 +181,7 @@ pub peak-greatest : (m : Move) (g : Given) (s : State) → Enters g s → ownNum
 peak-greatest m g s h o =
     let T : Table = tableIn (g .table) (g .n) in
     let r : Room = room (g .log) (g .tape) in
-    let x : Moment = moment s (g .session .position) in
+    let x : Moment = momentOf (g .session) s in
     let way : Way = wayOf m (g .session .position) in (
       runOf m T r x,
       moved m g s h o,

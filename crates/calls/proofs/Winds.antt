@@ -1,36 +1,29 @@
 -- A run from its end: stopped, or one step before a run that has the property. What holds of every run is shown by it.
-use mathlib.Core.Path.{_≡_, refl, sym, ap, _∙_}
-use mathlib.Core.Option.{Option, none, some, Option·some-injective, Option·none-ne-some, Option·some-ne-none}
-use Prim.Native.Nat.{ℕ, zero, suc, _-_}
+use mathlib.Core.Path.{_≡_, refl, sym, _∙_}
+use mathlib.Core.Option.{Option, none, some, Option·some-ne-none}
+use Prim.Native.Nat.{ℕ, zero, suc}
 use native.Mathlib.Omega.{arith}
-use Rattle.term.specs.Choice.{_>>=_}
 use Rattle.term.specs.Table.{Table}
-use Rattle.machine.specs.Machine.{State, stepBack}
 use Rattle.calls.specs.Session.{Stop, spent, jam, start}
-use Rattle.calls.specs.Stops.{Way, forward, back, Moment, moment, Room, nextBy, haltBefore, stopBefore}
+use Rattle.calls.specs.Stops.{Way, forward, back, Moment, Room, nextBy, haltBefore, stopBefore}
 use Rattle.calls.specs.Winding.{Run, ended, longer, wind}
 use Rattle.calls.proofs.Stops.{start-before-jam, jam-before-full-back, halt-before-full, IsStop, stop-is-stop, goes}
 
--- a next moment, by the step to it
-pub next-is : (o : Option State) (p : ℕ) (u : Moment) → (o >>= λ s. some (moment s p)) ≡ some u → (o ≡ some (u .state)) × (u .position ≡ p)
-next-is none p u e = absurd (Option·none-ne-some u e)
-next-is (some s) p u e = let same : moment s p ≡ u = Option·some-injective _ u e in (ap (λ x. some (x .state)) same, sym (ap (λ x. x .position) same))
-
 -- where no stop comes there is a step
 pub has-next : (way : Way) (T : Table) (r : Room) (c : ℕ) (m : Moment) → stopBefore way T r (suc c) m ≡ none → (u : Moment) × (nextBy way T m ≡ some u)
-has-next forward T r c m e = let g = goes T r c m e in (moment (g .next) (suc (m .position)), rw (g .steps))
+has-next forward T r c m e = let g = goes T r c m e in (g .next, g .steps)
 has-next back T r c m e = by-position (m .position) refl
   where
     halts : (x : Stop) → haltBefore back T (suc c) m ≡ some x → ⊥
     halts x h = Option·some-ne-none x (sym (halt-before-full back T r (suc c) m x h) ∙ e)
 
-    by-step : (m .position ≡ 0 → ⊥) → (o : Option State) → stepBack T (m .state) ≡ o → (u : Moment) × (nextBy back T m ≡ some u)
+    by-step : (m .position ≡ 0 → ⊥) → (o : Option Moment) → nextBy back T m ≡ o → (u : Moment) × (nextBy back T m ≡ some u)
     by-step past none n = absurd (halts jam (jam-before-full-back T c m past n))
-    by-step past (some u) n = (moment u (m .position - 1), rw n)
+    by-step past (some u) n = (u, n)
 
     by-position : (p : ℕ) → m .position ≡ p → (u : Moment) × (nextBy back T m ≡ some u)
     by-position zero p = absurd (halts start (start-before-jam T c m p))
-    by-position (suc q) p = by-step (λ z. omega arith) (stepBack T (m .state)) refl
+    by-position (suc q) p = by-step (λ z. omega arith) (nextBy back T m) refl
 
 module _ (way : Way) (T : Table) (r : Room) (P : ℕ → Moment → Run → Type 0)
     (none-left : (m : Moment) → P 0 m (ended T m spent))

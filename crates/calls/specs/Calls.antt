@@ -12,7 +12,7 @@ use Rattle.machine.specs.Entries.{logWords, tapeWords}
 use Rattle.machine.specs.Machine.{down, State}
 use Rattle.machine.specs.Slice.{slice}
 use Rattle.calls.specs.Session.{Session, refused, Outcome, Opening, Given}
-use Rattle.calls.specs.Stops.{Way, forward, back, Moment, moment, startMoment, Room, room, logSize, tapeSize}
+use Rattle.calls.specs.Stops.{Way, forward, back, Moment, momentOf, startMoment, Room, room, logSize, tapeSize}
 use Rattle.calls.specs.Winding.{Run, wind}
 use Rattle.calls.specs.Held.{Holds, stateIn}
 
@@ -104,7 +104,7 @@ wound r run = record {
 -- Refused by number, or wound from the state given. (Without a state number 9 applies.)
 abbrev pub outcomeBy : Option ℕ → Option State → Given → (Moment → Run) → Outcome
 outcomeBy (some k) o g run = refusedOutcome k g
-outcomeBy none (some s) g run = wound (room (g .log) (g .tape)) (run (moment s (g .session .position)))
+outcomeBy none (some s) g run = wound (room (g .log) (g .tape)) (run (momentOf (g .session) s))
 outcomeBy none none g run = refusedOutcome 9 g
 
 -- a call by a count, either way

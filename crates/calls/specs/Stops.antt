@@ -9,7 +9,7 @@ use Rattle.term.specs.Choice.{Test, _⇒_, first, _>>=_, isNone}
 use Rattle.term.specs.Table.{Table, Kind, variable, abstraction, application, nothing, kindAt}
 use Rattle.machine.specs.Entries.{logWords, Tape, tapeWords}
 use Rattle.machine.specs.Machine.{Dir, down, up, State, startState, step, stepBack}
-use Rattle.calls.specs.Session.{Stop, spent, jam, far, start, logFull, tapeFull, answer}
+use Rattle.calls.specs.Session.{Session, Stop, spent, jam, far, start, logFull, tapeFull, answer}
 
 -- which way a call winds
 pub data Way : Type 0 where
@@ -23,9 +23,16 @@ pub record Moment : Type 0 where
 abbrev pub moment : State → ℕ → Moment
 moment s p = record { state = s; position = p }
 
--- "the start state at position 0"
+-- the moment at which a session stands that holds this state
+abbrev pub momentOf : Session → State → Moment
+momentOf se s = moment s (se .position)
+
+-- "the start state at position 0"; other states may begin there too
+abbrev pub beginning : State → Moment
+beginning s = moment s 0
+
 abbrev pub startMoment : Moment
-startMoment = moment startState 0
+startMoment = beginning startState
 
 -- the lengths of the lent slices
 pub record Room : Type 0 where
@@ -46,10 +53,16 @@ logSize s = length (logWords (s .log))
 abbrev pub tapeSize : State → ℕ
 tapeSize s = length (tapeWords (s .tape))
 
--- One step either way, with its position.
+-- One step either way, with its position: the moment after a step from m to the state u, and before it.
+abbrev pub onward : Moment → State → Moment
+onward m u = moment u (suc (m .position))
+
+abbrev pub backward : Moment → State → Moment
+backward m u = moment u (m .position - 1)
+
 abbrev pub nextBy : Way → Table → Moment → Option Moment
-nextBy forward T m = step T (m .state) >>= λ u. some (moment u (suc (m .position)))
-nextBy back T m = stepBack T (m .state) >>= λ u. some (moment u (m .position - 1))
+nextBy forward T m = step T (m .state) >>= λ u. some (onward m u)
+nextBy back T m = stepBack T (m .state) >>= λ u. some (backward m u)
 
 -- "down at an abstraction with an empty tape"
 abbrev pub isAnswerBy : Kind → Dir → Tape → Bool

@@ -6,7 +6,7 @@ use Rattle.term.specs.Choice.{_>>=_}
 use Rattle.term.specs.Table.{Table, tableIn}
 use Rattle.machine.specs.Machine.{State}
 use Rattle.calls.specs.Session.{Outcome, Given}
-use Rattle.calls.specs.Stops.{Way, Moment, moment, room, nextBy}
+use Rattle.calls.specs.Stops.{Way, Moment, momentOf, room, nextBy}
 use Rattle.calls.specs.Weight.{weight}
 use Rattle.calls.specs.Winding.{Run}
 use Rattle.calls.specs.Calls.{wound}
@@ -34,4 +34,4 @@ module _ (way : Way) (T : Table) where
 -- The outcome is that of a run this way from the state given, and its peak the greatest weight over the states stood in.
 abbrev pub PeakOver : Given → State → Way → Outcome → Type 0
 PeakOver g s way o =
-    (run : Run) × (o ≡ wound (room (g .log) (g .tape)) run) × Walked way (tableIn (g .table) (g .n)) (moment s (g .session .position)) run
+    (run : Run) × (o ≡ wound (room (g .log) (g .tape)) run) × Walked way (tableIn (g .table) (g .n)) (momentOf (g .session) s) run

@@ -11,7 +11,7 @@ use Rattle.machine.specs.Machine.{State, turned, step}
 use Rattle.machine.specs.Carried.{carried}
 use Rattle.machine.proofs.Reverse.{turn-good}
 use Rattle.calls.specs.Session.{Session}
-use Rattle.calls.specs.Stops.{Way, forward, back, moment, logSize, tapeSize, nextBy}
+use Rattle.calls.specs.Stops.{Way, forward, back, moment, momentOf, logSize, tapeSize, nextBy}
 use Rattle.calls.specs.Winding.{carriedBy}
 use Rattle.calls.specs.Held.{Holds}
 use Rattle.session.specs.Types.{sessionMeant}
@@ -91,7 +91,7 @@ tape-length-facing back se = refl
 
 -- A step from what is turned about leads, turned again, to the next moment.
 pub next-facing : (way : Way) (T : Table) (s u : State) (se : Session) → step T (facing way s) ≡ some u
-    → nextBy way T (moment s (se .position)) ≡ some (moment (facing way u) (sessionAfter way se .position))
+    → nextBy way T (momentOf se s) ≡ some (momentOf (sessionAfter way se) (facing way u))
 next-facing forward T s u se e = rw e (ap (λ p. some (moment u p)) (sym (add-one (se .position))))
 next-facing back T s u se e = rw e refl
 

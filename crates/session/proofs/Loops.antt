@@ -10,7 +10,7 @@ use lib.Dec.{eqb}
 use Rattle.term.specs.Table.{Table, tableIn}
 use Rattle.machine.specs.Machine.{State}
 use Rattle.calls.specs.Session.{Stop, spent, found}
-use Rattle.calls.specs.Stops.{Way, Moment, moment, Room, room, nextBy, stopBefore}
+use Rattle.calls.specs.Stops.{Way, Moment, momentOf, Room, room, nextBy, stopBefore}
 use Rattle.calls.specs.Weight.{bullets, weight}
 use Rattle.calls.specs.Winding.{Run, carriedBy, ended, longer, wind}
 use Rattle.calls.specs.Calls.{longest, wound}
@@ -92,7 +92,7 @@ module _ (way : Way) (T : Table) (r : Room) (v : Spot) where
 
 -- The outcome of a session that holds the state where the whole run ends.
 module _ (o : Came.Outcome) {w : List ℕ} {n : ℕ} {ls ts : List ℕ} {s : State} (t : TokenAt w n (o .session) ls ts s) (r : Room) (same-room : room ls ts ≡ r) where
-  comes-out : (run : Run) (x : DeclaredStop.Stop) → run ≡ endedAfter (o .steps) (o .peak) (o .carried) (moment s (o .session .position)) (stopMeant x) → outcomeMeant (haltedBy o x) ls ts ≡ wound r run
+  comes-out : (run : Run) (x : DeclaredStop.Stop) → run ≡ endedAfter (o .steps) (o .peak) (o .carried) (momentOf (sessionMeant (o .session)) s) (stopMeant x) → outcomeMeant (haltedBy o x) ls ts ≡ wound r run
   comes-out run x f =
       let h = t .enters .holds in
       (λ i. record {
@@ -104,7 +104,7 @@ module _ (o : Came.Outcome) {w : List ℕ} {n : ℕ} {ls ts : List ℕ} {s : Sta
         log = h .log-lies i;
         tape = h .tape-lies i;
       })
-      ∙ ap (λ q. wound q (endedAfter (o .steps) (o .peak) (o .carried) (moment s (o .session .position)) (stopMeant x))) same-room
+      ∙ ap (λ q. wound q (endedAfter (o .steps) (o .peak) (o .carried) (momentOf (sessionMeant (o .session)) s) (stopMeant x))) same-room
       ∙ ap (wound r) (sym f)
 
 -- The loop of a call with its running outcome o and its count of bullets b, over slices of the lengths in r: what it still has to run is what is left of the whole run.
@@ -117,17 +117,17 @@ pub record Loop (way : Way) (w : List ℕ) (n : ℕ) (r : Room) (v : Spot) (run 
   pub counted : b ≡ bullets (state .tape)
   pub high : weight (tableIn w n) state ≤ o .peak
   pub few-carried : o .carried ≤ longest * o .steps
-  pub left : precededBy (o .steps) (o .peak) (o .carried) (seek way (tableIn w n) r v (count - o .steps) (moment state (o .session .position))) ≡ run
+  pub left : precededBy (o .steps) (o .peak) (o .carried) (seek way (tableIn w n) r v (count - o .steps) (momentOf (sessionMeant (o .session)) state)) ≡ run
 
 -- the loop of the call that is given state s₀
 abbrev pub LoopOf : Way → List ℕ → ℕ → Spot → ℕ → Declared.Session → List ℕ → List ℕ → State → Came.Outcome → ℕ → List ℕ → List ℕ → Type 0
 LoopOf way w n v count se₀ ls₀ ts₀ s₀ o b ls ts =
-    Loop way w n (room ls₀ ts₀) v (seek way (tableIn w n) (room ls₀ ts₀) v count (moment s₀ (se₀ .position))) count o b ls ts
+    Loop way w n (room ls₀ ts₀) v (seek way (tableIn w n) (room ls₀ ts₀) v count (momentOf (sessionMeant se₀) s₀)) count o b ls ts
 
 module _ {w : List ℕ} {n : ℕ} {se : Declared.Session} {ls ts : List ℕ} {s : State} (h : TokenAt w n se ls ts s) where
   pub loop-begins : (way : Way) (v : Spot) (count b : ℕ) → b ≡ bullets (s .tape) → LoopOf way w n v count se ls ts s (begunAt n se b) b ls ts
   loop-begins way v count b k =
-      let m : Moment = moment s (se .position) in
+      let m : Moment = momentOf (sessionMeant se) s in
       let e : count - 0 ≡ count = omega arith in
       record {
         state = s;
@@ -146,7 +146,7 @@ module _ {way : Way} {w : List ℕ} {n : ℕ} {r : Room} {v : Spot} {run : Run} 
   ready = record { state = l .state; token = l .token }
 
   abbrev standing : Moment
-  standing = moment (l .state) (o .session .position)
+  standing = momentOf (sessionMeant (o .session)) (l .state)
 
   same-room : room ls ts ≡ r
   same-room = λ i. record { log = l .same-log i; tape = l .same-tape i }
@@ -181,7 +181,7 @@ module _ {way : Way} {w : List ℕ} {n : ℕ} {r : Room} {v : Spot} {run : Run} 
     module _ {ls′ ts′ : List ℕ} {to : Declared.Session} (rule : Rule) (k : ℕ) (p : PassIs w n (o .session) ls ts way (l .state) (On to rule k) ls′ ts′) where
       -- the bullets after the step, and that there is such a number
       still-counted : bulletsAfter rule b ≡ bullets (p .0 .tape)
-      still-counted = ap (bulletsAfter rule) (l .counted) ∙ sym (pass-counted way (tableIn w n) (l .state) rule (p .1) (sessionMeant (o .session)) (moment (p .0) (to .position)) (p .2))
+      still-counted = ap (bulletsAfter rule) (l .counted) ∙ sym (pass-counted way (tableIn w n) (l .state) rule (p .1) (sessionMeant (o .session)) (momentOf (sessionMeant to) (p .0)) (p .2))
 
       pub loop-countable : HasCount rule b
       loop-countable = subst (HasCount rule) (sym (l .counted)) (pass-countable way (tableIn w n) (l .state) rule (p .1) (few-bullets (l .token)))
@@ -199,14 +199,14 @@ module _ {way : Way} {w : List ℕ} {n : ℕ} {r : Room} {v : Spot} {run : Run} 
           let (u, by-rule, e, stops, h, el, et, words) = p in
           omega (
             arith,
-            step-carries-few way (tableIn w n) r (subst (λ x. x .log ≤ longest) same-room (l .token .enters .short-log)) standing (moment u (to .position)) e
+            step-carries-few way (tableIn w n) r (subst (λ x. x .log ≤ longest) same-room (l .token .enters .short-log)) standing (momentOf (sessionMeant to) u) e
                 (fits-within (l .token) same-room) (fits-within h room-there),
           )
 
       pub loop-goes-on : isOn v (p .0) ≡ false → Loop way w n r v run count (lengthenedTo o n to (bulletsAfter rule b) k) (bulletsAfter rule b) ls′ ts′
       loop-goes-on away =
           let (u, by-rule, e, stops, h, el, et, words) = p in
-          let m : Moment = moment u (to .position) in
+          let m : Moment = momentOf (sessionMeant to) u in
           record {
             state = u;
             token = h;
@@ -225,7 +225,7 @@ module _ {way : Way} {w : List ℕ} {n : ℕ} {r : Room} {v : Spot} {run : Run} 
       pub loop-found : isOn v (p .0) ≡ true → outcomeMeant (haltedBy (lengthenedTo o n to (bulletsAfter rule b) k) Found) ls′ ts′ ≡ wound r run
       loop-found there =
           let (u, by-rule, e, stops, h, el, et, words) = p in
-          let m : Moment = moment u (to .position) in
+          let m : Moment = momentOf (sessionMeant to) u in
           comes-out (lengthenedTo o n to (bulletsAfter rule b) k) h r room-there run Found
           (left-by (suc still) one-left
           ∙ found-there way (tableIn w n) r v (o .steps) (o .peak) (o .carried) standing (l .high) still m (stop-here none stops) e there

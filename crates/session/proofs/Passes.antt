@@ -1,7 +1,7 @@
 -- A pass of the winding loop: each way out of the code is one law.
 use mathlib.Core.Path.{_≡_, refl, sym, ap, _∙_, subst}
 use mathlib.Core.Bool.{true, false, false≢true}
-use mathlib.Core.Option.{none, some, Option·map}
+use mathlib.Core.Option.{none, some}
 use mathlib.Core.List.{List}
 use Prim.Native.Nat.{ℕ, suc, _≤_, _<_}
 use native.Mathlib.Omega.{arith}
@@ -10,7 +10,7 @@ use borrow.Author.Tests.{eqb-true, eqb-false}
 use Rattle.term.specs.Table.{Table, tableIn}
 use Rattle.machine.specs.Machine.{State, turn, step}
 use Rattle.calls.specs.Session.{answer}
-use Rattle.calls.specs.Stops.{Way, forward, back, Moment, moment, room, greatest, logSize, tapeSize, nextBy}
+use Rattle.calls.specs.Stops.{Way, forward, back, Moment, momentOf, room, greatest, logSize, tapeSize, nextBy}
 use Rattle.term.proofs.Facts.{accepted-facts}
 use Rattle.calls.proofs.Held.{held-once}
 use Rattle.calls.proofs.Stops.{Fits, answer-before-jam, jam-before-far, far-before-full, no-halt-forward, start-before-jam, jam-before-full-back, no-halt-back, halt-before-full, log-full-next, tape-full-next, no-stop-next}
@@ -46,7 +46,7 @@ module _ {w : List ℕ} {n : ℕ} {se : Declared.Session} {ls ts : List ℕ} {s 
   T = tableIn w n
 
   abbrev here : Moment
-  here = moment s (se .position)
+  here = momentOf (sessionMeant se) s
 
   -- before a step, either way
   pub ends : (way : Way) → isEnd way T here ≡ true → BeforeIs w n se way s (Ends (endStop way se))
@@ -55,7 +55,7 @@ module _ {w : List ℕ} {n : ℕ} {se : Declared.Session} {ls ts : List ℕ} {s 
 
   pub jams : (way : Way) → isEnd way T here ≡ false → step T (facing way s) ≡ none → BeforeIs w n se way s (Ends Jam)
   jams forward unanswered e = λ c. jam-before-far T c here unanswered e
-  jams back past e = λ c. jam-before-full-back T c here (eqb-false (se .position) 0 past) (ap (Option·map turn) e)
+  jams back past e = λ c. jam-before-full-back T c here (eqb-false (se .position) 0 past) (rw e refl)
 
   pub ends-far : (way : Way) → isEnd way T here ≡ false → (r : Rule) → RuleIs T (facing way s) r → isFar way (se .position) ≡ true → BeforeIs w n se way s (Ends Far)
   ends-far forward on r f e = let (u, steps) = rule-steps T s r f in λ c. far-before-full T c here on u steps (eqb-true (se .position) greatest e)
@@ -69,7 +69,7 @@ module _ {w : List ℕ} {n : ℕ} {se : Declared.Session} {ls ts : List ℕ} {s 
   makes back on r f e word =
       let (u, steps) = rule-steps T (turn s) r f in
       let past = eqb-false (se .position) 0 on in
-      (λ c. no-halt-back T c here past (turn u) (ap (Option·map turn) steps), omega (arith, past), f)
+      (λ c. no-halt-back T c here past _ (next-facing back T s u (sessionMeant se) steps), omega (arith, past), f)
 
   -- the pass
   module _ (way : Way) where
@@ -106,6 +106,6 @@ module _ {w : List ℕ} {n : ℕ} {se : Declared.Session} {ls ts : List ℕ} {s 
           let (u, e, token, words) = i in
           let there : TokenAt w n next ls′ ts′ (facing way u) = token-after (subst (λ p. TokenAt w n (arrivedAt p to) ls′ ts′ u) same token) way a in
           let fits : Fits (room ls ts) (facing way u) = fits-within there (λ i. record { log = el i; tape = et i }) in
-          let came : nextBy way T here ≡ some (moment (facing way u) (next .position)) =
-          next-facing way T s u (sessionMeant (arrivedAt (se .position) to)) e ∙ ap (λ p. some (moment (facing way u) p)) (sym (ap (λ x. x .position) a)) in
+          let came : nextBy way T here ≡ some (momentOf (sessionMeant next) (facing way u)) =
+          next-facing way T s u (sessionMeant (arrivedAt (se .position) to)) e ∙ ap (λ x. some (momentOf x (facing way u))) (sym a) in
           (facing way u, b .2, came, λ c. no-stop-next way T (room ls ts) (suc c) here (b .0 c) _ came fits, there, el, et, words ∙ carried-facing way T s)

@@ -9,7 +9,7 @@ use Rattle.term.proofs.Facts.{accepted-facts}
 use Rattle.machine.specs.Machine.{Dir, down, State}
 use Rattle.machine.specs.Good.{Good}
 use Rattle.calls.specs.Session.{Stop, spent}
-use Rattle.calls.specs.Stops.{Way, forward, back, Moment, moment, Room, room, greatest}
+use Rattle.calls.specs.Stops.{Way, forward, back, Moment, momentOf, Room, room, greatest}
 use Rattle.calls.specs.Winding.{Run, ended, wind}
 use Rattle.calls.specs.Calls.{Enters, wound}
 use Rattle.calls.specs.Visits.{Spot, spot, seek, isFound, seekBack, Sought, visited, unvisited}
@@ -37,7 +37,7 @@ module _ {w : List ℕ} {n : ℕ} {se : Declared.Session} {ls ts : List ℕ} {s 
   r = room ls ts
 
   abbrev here : Moment
-  here = moment s (se .position)
+  here = momentOf (sessionMeant se) s
 
   abbrev given : Standing
   given = record { session = sessionMeant se; log = ls; tape = ts }
@@ -110,7 +110,7 @@ module _ {w : List ℕ} {n : ℕ} {se : Declared.Session} {ls ts : List ℕ} {s 
             out : outcomeMeant a ls₂ ts₂ ≡ wound r (wind forward T r (searched .steps) (searched .last))
             out =
                 winds (searched .last .state) token-left
-                ∙ (λ i. wound (same-room i) (wind forward T (same-room i) (came i .steps) (moment (searched .last .state) (came i .session .position))))
+                ∙ (λ i. wound (same-room i) (wind forward T (same-room i) (came i .steps) (momentOf (came i .session) (searched .last .state))))
 
             home : laidDown r (wind forward T r (searched .steps) (searched .last) .last) ≡ given
             home = ap (laidDown r) (comes-again unseen near) ∙ sym (held-laid-down T given s (h .enters .holds))

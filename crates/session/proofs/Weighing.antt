@@ -9,7 +9,7 @@ use lib.ListN.{length, drop, getD, drop-of-length-le}
 use Rattle.term.specs.Table.{Table, tableIn}
 use Rattle.machine.specs.Machine.{State}
 use Rattle.calls.specs.Session.{Session}
-use Rattle.calls.specs.Stops.{Way, Moment, moment, logSize, tapeSize, nextBy}
+use Rattle.calls.specs.Stops.{Way, Moment, momentOf, logSize, tapeSize, nextBy}
 use Rattle.calls.specs.Digits.{digits}
 use Rattle.calls.specs.Weight.{bullets, weight, zeroWords}
 use Rattle.calls.specs.Calls.{longest}
@@ -67,7 +67,7 @@ bullets-facing : (way : Way) (s : State) → onTape (facing way s) ≡ onTape s
 bullets-facing way s = ap bullets (same-tape way s)
 
 module _ (way : Way) (T : Table) (s : State) (rule : Rule) (f : RuleIs T (facing way s) rule) where
-  pub pass-counted : (se : Session) (m : Moment) → nextBy way T (moment s (se .position)) ≡ some m → onTape (m .state) ≡ bulletsAfter rule (onTape s)
+  pub pass-counted : (se : Session) (m : Moment) → nextBy way T (momentOf se s) ≡ some m → onTape (m .state) ≡ bulletsAfter rule (onTape s)
   pass-counted se m e =
       let (u, steps) = rule-steps T (facing way s) rule f in
       ap (λ x. onTape (x .state)) (Option·some-injective m _ (sym e ∙ next-facing way T s u se steps))

@@ -9,10 +9,10 @@ use lib.Dec.{eqb}
 use Rattle.term.specs.Table.{Table, tableIn}
 use Rattle.machine.specs.Machine.{State, turned, turn}
 use Rattle.calls.specs.Session
-use Rattle.calls.specs.Stops.{Way, forward, back, Moment, moment, room, greatest, isAnswer, nextBy, haltBefore, stopBefore}
+use Rattle.calls.specs.Stops.{Way, forward, back, Moment, momentOf, room, greatest, isAnswer, nextBy, haltBefore, stopBefore}
 use Rattle.calls.specs.Winding.{carriedBy, wind}
 use Rattle.calls.specs.Calls.{wound}
-use Rattle.session.specs.Types.{wayMeant, stopMeant, outcomeMeant}
+use Rattle.session.specs.Types.{wayMeant, sessionMeant, stopMeant, outcomeMeant}
 use Rattle.session.specs.Steps.{TokenAt}
 use Rattle.session.specs.Rules.{RuleIs}
 use Rattle.session.specs.Weight.{weightOf}
@@ -77,7 +77,7 @@ isEnd forward T m = isAnswer T (m .state)
 isEnd back T m = eqb (m .position) 0
 
 abbrev pub TellsEnd : List ℕ → ℕ → Declared.Session → Way → Bool → Type 0
-TellsEnd w n se way b = (ls ts : List ℕ) (s : State) → TokenAt w n se ls ts s → b ≡ isEnd way (tableIn w n) (moment s (se .position))
+TellsEnd w n se way b = (ls ts : List ℕ) (s : State) → TokenAt w n se ls ts s → b ≡ isEnd way (tableIn w n) (momentOf (sessionMeant se) s)
 
 -- the stop there
 abbrev pub endStop : Way → Declared.Session → DeclaredStop.Stop
@@ -91,9 +91,9 @@ isFar back p = false
 
 -- Before a step, the count not used up: the stop, if it is not a full slice; or the rule that fits what the step is made from.
 abbrev pub BeforeIs : List ℕ → ℕ → Declared.Session → Way → State → Before → Type 0
-BeforeIs w n se way s (Ends x) = (c : ℕ) → haltBefore way (tableIn w n) (suc c) (moment s (se .position)) ≡ some (stopMeant x)
+BeforeIs w n se way s (Ends x) = (c : ℕ) → haltBefore way (tableIn w n) (suc c) (momentOf (sessionMeant se) s) ≡ some (stopMeant x)
 BeforeIs w n se way s (Makes r) =
-    ((c : ℕ) → haltBefore way (tableIn w n) (suc c) (moment s (se .position)) ≡ none)
+    ((c : ℕ) → haltBefore way (tableIn w n) (suc c) (momentOf (sessionMeant se) s) ≡ none)
     × HasNext way (se .position)
     × RuleIs (tableIn w n) (facing way s) r
 
@@ -105,14 +105,14 @@ abbrev pub PassIs : List ℕ → ℕ → Declared.Session → List ℕ → List 
 PassIs w n se ls ts way s (On to r k) ls′ ts′ =
     (u : State)
     × RuleIs (tableIn w n) (facing way s) r
-    × (nextBy way (tableIn w n) (moment s (se .position)) ≡ some (moment u (to .position)))
-    × ((c : ℕ) → stopBefore way (tableIn w n) (room ls ts) (suc c) (moment s (se .position)) ≡ none)
+    × (nextBy way (tableIn w n) (momentOf (sessionMeant se) s) ≡ some (momentOf (sessionMeant to) u))
+    × ((c : ℕ) → stopBefore way (tableIn w n) (room ls ts) (suc c) (momentOf (sessionMeant se) s) ≡ none)
     × TokenAt w n to ls′ ts′ u
     × (length ls′ ≡ length ls)
     × (length ts′ ≡ length ts)
     × (k ≡ carriedBy way (tableIn w n) s)
 PassIs w n se ls ts way s (Halted x) ls′ ts′ =
-    ((c : ℕ) → stopBefore way (tableIn w n) (room ls ts) (suc c) (moment s (se .position)) ≡ some (stopMeant x)) × (ls′ ≡ ls) × (ts′ ≡ ts)
+    ((c : ℕ) → stopBefore way (tableIn w n) (room ls ts) (suc c) (momentOf (sessionMeant se) s) ≡ some (stopMeant x)) × (ls′ ≡ ls) × (ts′ ≡ ts)
 
 abbrev pub Passes : List ℕ → ℕ → Declared.Session → List ℕ → List ℕ → DeclaredWay.Way → Pass → List ℕ → List ℕ → Type 0
 Passes w n se ls ts way p ls′ ts′ = (s : State) → TokenAt w n se ls ts s → PassIs w n se ls ts (wayMeant way) s p ls′ ts′
@@ -131,4 +131,4 @@ haltedBy o x = record { session = o .session; steps = o .steps; stop = x; peak =
 abbrev pub Winds : List ℕ → ℕ → Declared.Session → List ℕ → List ℕ → DeclaredWay.Way → ℕ → Came.Outcome → List ℕ → List ℕ → Type 0
 Winds w n se ls ts way count o ls′ ts′ =
     (s : State) → TokenAt w n se ls ts s
-    → outcomeMeant o ls′ ts′ ≡ wound (room ls ts) (wind (wayMeant way) (tableIn w n) (room ls ts) count (moment s (se .position)))
+    → outcomeMeant o ls′ ts′ ≡ wound (room ls ts) (wind (wayMeant way) (tableIn w n) (room ls ts) count (momentOf (sessionMeant se) s))

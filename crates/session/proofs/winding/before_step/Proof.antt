@@ -6,7 +6,7 @@ use Prim.Native.Nat.{ℕ}
 use native.Mathlib.Omega.{arith}
 use Rattle.term.specs.Table.{tableIn}
 use Rattle.machine.specs.Machine.{State}
-use Rattle.calls.specs.Stops.{moment}
+use Rattle.calls.specs.Stops.{momentOf}
 use Rattle.session.specs.Types.{wayMeant, sessionMeant}
 use Rattle.session.specs.Steps.{TokenAt}
 use Rattle.session.specs.Passes.{facing, isEnd}
@@ -48,7 +48,7 @@ is-far-requires c κs = search needs
 
 -- The walk has not come to its end.
 on : (c : tie.After-chosen) (ls : List ℕ) (s : State) → (let a = c .before .before .before .before .before .before .args in
-    TokenAt (a .table .now) (a .n) (a .session) ls (a .tape .now) s → isEnd (wayMeant (a .way)) (tableIn (a .table .now) (a .n)) (moment s (a .session .position)) ≡ false)
+    TokenAt (a .table .now) (a .n) (a .session) ls (a .tape .now) s → isEnd (wayMeant (a .way)) (tableIn (a .table .now) (a .n)) (momentOf (sessionMeant (a .session)) s) ≡ false)
 on c ls s h =
     let a = c .before .before .before .before .before .before .args in
     sym (c .before .before .before .is-end .ensures ls (a .tape .now) s h) ∙ c .before .before .if1 .left
