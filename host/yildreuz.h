@@ -23,10 +23,11 @@
      3  it has a name over 8 bytes, or one that          or no closed term has it
         starts with a digit                           8  log or tape has more than 16,384 words
      4  it is not a term                              9  the session, log and tape hold no state of the machine, or
-     5  it has a name without a binder                   the session's direction is neither 0 nor 1
-    13  it is no text of the number dialect          10  the chosen list is empty, or none is chosen
-    14  it has a number that reaches past the        11  the text to be written has more than 3,000 bytes, or more
-        outermost binder                                 than are lent
+     5  it has a name without a binder                   the session's direction is neither 0 nor 1, or its turns
+    13  it is no text of the number dialect              are greater than its position
+    14  it has a number that reaches past the        10  the chosen list is empty, or none is chosen
+        outermost binder                             11  the text to be written has more than 3,000 bytes, or more
+                                                         than are lent
                                                      12  the node to be visited is 0 or over n, or the direction of
                                                          the visit is neither 0 nor 1
    A table's words have 16 bits, and 6 and 7 count these; those of log and tape have 32.
@@ -56,8 +57,9 @@
 
    What holds after every list of calls. Open a session on a table that was read, and hand each call of forward, back,
    go_to, back_to and forward_to the session, log and tape that the one before left: then these are, word for word, those
-   of the machine after as many steps as the position says, however the calls were mixed, and each call carried what the
-   machine's steps between its two positions carry. This is proved, as is every answer of every call.
+   of the machine after as many steps as the position says, however the calls were mixed, the turns are how many of these
+   steps changed direction, and each call carried what the machine's steps between its two positions carry. This is proved,
+   as is every answer of every call.
 
    How long a call takes. Each call ends; it first looks over the whole table and both slices, and then makes its steps,
    which may be billions where the count, or the way to the position, is that long. A viewer that must stay awake winds
@@ -95,7 +97,7 @@ enum { YILDREUZ_LOG = 0, YILDREUZ_TAPE = 1 };
 enum {
     YILDREUZ_SPENT = 0,     /* every step asked for was made */
     YILDREUZ_ANSWER = 1,    /* down at an abstraction with an empty tape; value is its node */
-    YILDREUZ_JAM = 2,       /* no rule fits the state */
+    YILDREUZ_JAM = 2,       /* no rule fits the state, or a step back would leave turns below 0 or above its position */
     YILDREUZ_FAR = 3,       /* the position is at its greatest, 4,294,967,295 */
     YILDREUZ_START = 4,     /* going back, at position 0 */
     YILDREUZ_LOG_FULL = 5,  /* the log slice has no room for the next step */
@@ -124,6 +126,10 @@ typedef struct yildreuz_session {
     uint32_t position;  /* steps from the start */
     uint32_t log_len;   /* words of the log in use, from the slice's first on; its top is the last of them */
     uint32_t tape_len;  /* the same of the tape */
+    uint32_t turns;     /* how many of the steps from the start to the position changed direction, so that a viewer can show
+                           how often the token turned round: a step forward that changes direction adds one, and a step
+                           back takes it off again. They are at most the position; of a session from open they are even
+                           where the token goes down, and odd where it goes up */
 } yildreuz_session;
 
 /* What open answers. */
@@ -219,8 +225,10 @@ yildreuz_opening yildreuz_open(const uint16_t *table, size_t table_len, uint32_t
 yildreuz_outcome yildreuz_forward(const uint16_t *table, size_t table_len, uint32_t n, yildreuz_session session,
                                   uint32_t *log, size_t log_len, uint32_t *tape, size_t tape_len, uint32_t count);
 
-/* Makes count steps back, or fewer if another stop comes first. After forward, back by the steps made gives the session
-   and every word of both slices as they were.
+/* Makes count steps back, or fewer if another stop comes first. After forward, back by the steps made gives the session,
+   its turns included, and every word of both slices as they were. On a session that comes from no such list of calls as the
+   top of this file speaks of, the turns may be too few or too many for the way back: a step that would leave them below 0,
+   or above the new position, is a jam, and comes before a full slice.
    Borrows, refuses, needs and leaves to the caller what yildreuz_forward does. */
 yildreuz_outcome yildreuz_back(const uint16_t *table, size_t table_len, uint32_t n, yildreuz_session session,
                                uint32_t *log, size_t log_len, uint32_t *tape, size_t tape_len, uint32_t count);

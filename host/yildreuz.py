@@ -12,7 +12,7 @@ and used so, with host/ in PYTHONPATH:
     n, refusal = lib.read(rb'(\x.x x)(\y.y)', table)
     parents = memoryview(table)[3 * n:4 * n]    # a column of the table, no word of it copied: 0, 1, 2, 3, 3, 1, 6 for the nodes 1 to 7
     session, refusal = lib.open(table, n, log, tape)
-    out = lib.forward(table, n, session, log, tape, 100)    # out.steps 12, out.stop ANSWER, out.value 6, out.peak 6 (in bits), out.carried 6
+    out = lib.forward(table, n, session, log, tape, 100)    # out.steps 12, out.stop ANSWER, out.value 6, out.peak 6 (in bits), out.carried 6, out.session.turns 8
     part, refusal = lib.top(table, n, out.session, log, tape, yildreuz.LOG)
     newest = memoryview(log)[part.offset:part.offset + part.len]    # the newest log entry, no word of it copied: 7, 5
     home = lib.back(table, n, out.session, log, tape, out.steps)
@@ -58,6 +58,7 @@ class Session(NamedTuple):
     position: int
     log_len: int
     tape_len: int
+    turns: int
 
 
 class Opening(NamedTuple):

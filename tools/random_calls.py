@@ -4,10 +4,11 @@
   tools/random_calls.py LIBRARY [CALLS [SEED]]
 
 Texts are closed terms, written with blanks and brackets that the grammar permits or in the number dialect, and damaged ones; tables, slices and sessions are
-those that the calls left, and damaged ones, tables also with another n, in rows where columns belong, and short of words; terms are written, and texts
-converted, into about as many bytes as the result has; the visits looked for are mostly of nodes that the token comes to. Every number of every answer is
-compared, every word or byte of what is lent, and those that stand before and after it. At the end every stop and every refusal must have come up, from each
-call that gives it. First, what the wrapper itself must refuse.
+those that the calls left, and damaged ones, tables also with another n, in rows where columns belong, and short of words, slices also cut to the words in use,
+sessions also with other turns; terms are written, and texts converted, into about as many bytes as the result has; the visits looked for are mostly of nodes
+that the token comes to. Every number of every answer is compared, every word or byte of what is lent, and those that stand before and after it. At the end
+every stop and every refusal must have come up, from each call that gives it, and so must a 9, a jam and a none that come of the turns alone. First, what the
+wrapper itself must refuse.
 """
 import pathlib
 import random
@@ -27,6 +28,7 @@ CODES = {name: code for code, name in enumerate(yildreuz.STOP_NAMES)}
 
 # what must have come up of each call by the end
 WRITTEN = {'written', '3,000 bytes', 'over 3,000 bytes', 'refused 11'}
+NO_SESSION = {'refused 7', 'refused 8', 'refused 9', 'no direction', 'too many turns'}
 DUE = {
     'read': {'read'} | {'refused %d' % k for k in range(1, 7)},
     'read_numbers': {'read'} | {'refused %d' % k for k in (1, 13, 14, 6)},
@@ -35,13 +37,13 @@ DUE = {
     'to_numbers': WRITTEN | {'refused %d' % k for k in range(1, 6)},
     'to_names': WRITTEN | {'refused %d' % k for k in (1, 13, 14)},
     'open': {'opened', 'refused 7', 'refused 8'},
-    'forward': {'spent', 'answer', 'jam', 'far', 'log full', 'tape full', 'refused 7', 'refused 8', 'refused 9', 'no direction'},
-    'back': {'spent', 'start', 'jam', 'log full', 'tape full', 'refused 7', 'refused 8', 'refused 9', 'no direction'},
-    'top': {'log entry', 'tape entry', 'nested', 'bullet', 'no list', 'no direction'} | {'refused %d' % k for k in range(7, 11)},
+    'forward': {'spent', 'answer', 'jam', 'far', 'log full', 'tape full'} | NO_SESSION,
+    'back': {'spent', 'start', 'jam', 'jam by turns', 'log full', 'tape full'} | NO_SESSION,
+    'top': {'log entry', 'tape entry', 'nested', 'bullet', 'no list', 'refused 10'} | NO_SESSION,
 }
 DUE['go_to'] = (DUE['forward'] | DUE['back']) - {'start', 'far'}  # its count is used up where either could come
 DUE['forward_to'] = DUE['forward'] | {'found', 'refused 12', 'no chosen direction'}
-DUE['back_to'] = {'found', 'none', 'no direction', 'no chosen direction'} | {'refused %d' % k for k in (7, 8, 9, 12)}
+DUE['back_to'] = {'found', 'none', 'none by turns', 'refused 12', 'no chosen direction'} | NO_SESSION
 
 
 class Lent:
@@ -205,7 +207,7 @@ def damaged_table(rng, table, n):
 
 
 def damaged_session(rng, s, n):
-    field = rng.choice(s._fields + ('direction', 'position', 'position'))
+    field = rng.choice(s._fields + ('direction', 'position', 'position', 'turns', 'turns', 'turns'))
     value = getattr(s, field)
     if field == 'direction':
         new = rng.choice([1 - value, 1 - value, 2, 3, rng.getrandbits(32)]) if value <= 1 else 0
@@ -213,19 +215,24 @@ def damaged_session(rng, s, n):
         new = rng.choice([0, value + 1, rng.randint(0, 40), yildreuz.GREATEST - rng.randint(0, 4)])
     elif field == 'node':
         new = rng.choice([0, n + 1, rng.randint(1, n + 1), rng.randint(1, n + 1), rng.getrandbits(32)])
+    elif field == 'turns':
+        new = rng.choice([0, value + 1, max(value, 1) - 1, s.position, s.position + 1, rng.randint(0, s.position), rng.getrandbits(32)])
     else:
         new = rng.choice([0, value + 1, max(value, 1) - 1, rng.getrandbits(32)])
-    return s._replace(**{field: min(new, yildreuz.GREATEST)})
+    s = s._replace(**{field: min(new, yildreuz.GREATEST)})
+    if field == 'turns' or rng.random() < 0.4:
+        return s
+    return s._replace(turns=rng.randint(0, s.position))  # so that not every way back ends by the turns
 
 
 # ---- what a call must answer
 
 def session_of(s):
-    return reference.Session(s.node, 'du'[s.direction], s.position, s.log_len, s.tape_len)
+    return reference.Session(s.node, 'du'[s.direction], s.position, s.log_len, s.tape_len, s.turns)
 
 
 def numbers_of(se):
-    return yildreuz.Session(se.node, 'du'.index(se.dir), se.position, se.log_len, se.tape_len)
+    return yildreuz.Session(se.node, 'du'.index(se.dir), se.position, se.log_len, se.tape_len, se.turns)
 
 
 MEANT = {
@@ -261,6 +268,25 @@ def expected_top(w, n, s, log, tape, which):
     if which > 1 and refusal in (0, 10):  # 10, after 7 to 9
         offset, part, refusal = 0, [], 10
     return yildreuz.Top(yildreuz.Part(offset, len(part)), refusal), part
+
+
+# ---- what a refusal or a jam came of
+
+def refused(number, w, n, s, log, tape):
+    """A 9 by the direction, or by the turns alone, has a name of its own."""
+    if number == 9 and s.direction > 1:
+        return 'no direction'
+    if number == 9 and reference.given(w, n, session_of(s._replace(turns=0)), log, tape)[2] == 0:
+        return 'too many turns'
+    return 'refused %d' % number
+
+
+def jams_by_turns(w, n, s, log, tape):
+    """Whether the way back ends at a jam, and not with 0 turns there, or 1: a rule fits, and there is room."""
+    log, tape = list(log), list(tape)
+    se, _, stop, _, _ = reference.call(w, n, session_of(s), log, tape, s.position, True)
+    others = [session_of(numbers_of(se)._replace(turns=turns)) for turns in (0, 1)]
+    return stop == 'jam' and any(reference.call(w, n, other, list(log), list(tape), 1, True)[1] for other in others)
 
 
 # ---- the comparison
@@ -378,9 +404,12 @@ class Comparison:
         want = expected(name, w, n, s, want_log, want_tape, numbers)
         self.same((got, table.now(), log.now(), tape.now()), (want, w, want_log, want_tape), given)
         what = yildreuz.STOP_NAMES[got.stop]
+        goes_back = name in ('back', 'back_to') or name == 'go_to' and numbers[0] < s.position
         if what == 'refused':
             unchosen = len(numbers) > 1 and numbers[1] > 1 and got.value == 12
-            what = 'no direction' if s.direction > 1 and got.value == 9 else 'no chosen direction' if unchosen else 'refused %d' % got.value
+            what = 'no chosen direction' if unchosen else refused(got.value, w, n, s, want_log, want_tape)
+        elif what in ('jam', 'none') and goes_back and jams_by_turns(w, n, got.session, want_log, want_tape):
+            what += ' by turns'
         self.note(name, what)
         return got
 
@@ -394,7 +423,7 @@ class Comparison:
         if which <= 1:
             self.same(words[which][got.part.offset:got.part.offset + got.part.len], part, ('the part', w, n, s, *words, which))
         if got.refusal:
-            what = 'no direction' if s.direction > 1 and got.refusal == 9 else 'no list' if which > 1 and got.refusal == 10 else 'refused %d' % got.refusal
+            what = 'no list' if which > 1 and got.refusal == 10 else refused(got.refusal, w, n, s, *words)
         else:
             what = 'bullet' if part == [0] else 'nested' if len(part) > 1 else ('log entry', 'tape entry')[which]
         self.note('top', what)
@@ -429,6 +458,8 @@ class Comparison:
                 s = self.wind(*damaged_table(rng, table, n), s, log, tape).session
             else:
                 others = [Lent(rng, damaged(rng, x.now(), n)) for x in (log, tape)]
+                if rng.random() < 0.2:  # the words in use, or one more
+                    others = [Lent(rng, x.now()[:used + rng.randint(0, 1)]) for x, used in ((log, s.log_len), (tape, s.tape_len))]
                 if rng.random() < 0.05:
                     others[rng.randrange(2)] = Lent(rng, [0] * 16385)
                 out = self.wind(table, n, s, *others)
@@ -470,6 +501,7 @@ def refuses_misuse(lib):
         (OverflowError, lambda: lib.open(table, -1, log, tape)),
         (OverflowError, lambda: lib.back(table, n, start, log, tape, yildreuz.GREATEST + 1)),
         (OverflowError, lambda: lib.go_to(table, n, start._replace(node=yildreuz.GREATEST + 2), log, tape, 0)),
+        (OverflowError, lambda: lib.forward(table, n, start._replace(turns=-1), log, tape, 1)),
         (ValueError, lambda: lib.back_to(table, n, start, log, log, 1, yildreuz.UP)),
         (OverflowError, lambda: lib.back_to(table, n, start, log, tape, -1, yildreuz.UP)),
         (OverflowError, lambda: lib.forward_to(table, n, start, log, tape, 1, yildreuz.GREATEST + 1, 0)),

@@ -1,5 +1,5 @@
 #!/usr/bin/env python3
-"""An independent reading of document 01, and of changes 1 to 3 and 5 to 8 of document 02, from which the expected outputs of the programs `cases` and `winder` are worked out.
+"""An independent reading of document 01, and of changes 1 to 3 and 5 to 9 of document 02, from which the expected outputs of the programs `cases` and `winder` are worked out.
 
   tools/reference.py cases < SCRIPT   what `cases` must print for a script of cases, as crates/cases/stdin (script.py)
   tools/reference.py winder < TERM    what `winder` must print for a term
@@ -284,33 +284,41 @@ def weight(m, s):
     return len(s[3]) - len(held) + x * sum(positions(e) for e in s[2] + held)
 
 
-def wind(m, s, position, count, log_room, tape_room, back):
-    """The last state, its position, the steps, the stop, the peak and the words carried: of each step, those of the entries that it moves."""
-    steps, peak, carried = 0, weight(m, s), 0
+def turns_of(s, u):
+    """Of a step between two states: 1 if it changes direction, else 0."""
+    return int(s[1] != u[1])
+
+
+def wind(m, s, position, turns, count, log_room, tape_room, back):
+    """The last state, its position and turns, the steps, the stop, the peak and the words carried: of each step, those of the entries that it moves.
+
+    A step forward adds its turn; a step back takes it off, and must leave from 0 to as many as its new position.
+    """
+    steps, peak, carried, way = 0, weight(m, s), 0, -1 if back else 1
     while True:
         if count == 0:
-            return s, position, steps, 'spent', peak, carried
+            return s, position, turns, steps, 'spent', peak, carried
         if back:
             if position == 0:
-                return s, position, steps, 'start', peak, carried
+                return s, position, turns, steps, 'start', peak, carried
             made = m.step_back(s)
-            if made is None:
-                return s, position, steps, 'jam', peak, carried
+            if made is None or not 0 <= turns - turns_of(s, made[0]) <= position - 1:
+                return s, position, turns, steps, 'jam', peak, carried
         else:
             if m.answers(s):
-                return s, position, steps, 'answer %d' % s[0], peak, carried
+                return s, position, turns, steps, 'answer %d' % s[0], peak, carried
             made = m.step(s)
             if made is None:
-                return s, position, steps, 'jam', peak, carried
+                return s, position, turns, steps, 'jam', peak, carried
             if position == GREATEST:
-                return s, position, steps, 'far', peak, carried
+                return s, position, turns, steps, 'far', peak, carried
         u, moved = made
         if len(words(u[2])) > log_room:
-            return s, position, steps, 'log full', peak, carried
+            return s, position, turns, steps, 'log full', peak, carried
         if len(words(u[3])) > tape_room:
-            return s, position, steps, 'tape full', peak, carried
-        s, position, steps, count = u, position + (-1 if back else 1), steps + 1, count - 1
-        peak, carried = max(peak, weight(m, s)), carried + len(words(moved))
+            return s, position, turns, steps, 'tape full', peak, carried
+        position, turns, steps, count = position + way, turns + way * turns_of(s, u), steps + 1, count - 1
+        s, peak, carried = u, max(peak, weight(m, u)), carried + len(words(moved))
 
 
 START = (1, 'd', [], [])
@@ -468,11 +476,11 @@ def entries(m, ws, with_bullets):
 
 
 class Session:
-    def __init__(self, node=0, dir='d', position=0, log_len=0, tape_len=0):
-        self.node, self.dir, self.position, self.log_len, self.tape_len = node, dir, position, log_len, tape_len
+    def __init__(self, node=0, dir='d', position=0, log_len=0, tape_len=0, turns=0):
+        self.node, self.dir, self.position, self.log_len, self.tape_len, self.turns = node, dir, position, log_len, tape_len, turns
 
     def shown(self):
-        return '%d %s %d %d %d' % (self.node, self.dir, self.position, self.log_len, self.tape_len)
+        return '%d %s %d %d %d %d' % (self.node, self.dir, self.position, self.log_len, self.tape_len, self.turns)
 
 
 def lay(ws, room):
@@ -497,7 +505,7 @@ def given(w, n, se, log, tape):
     if len(log) > 16384 or len(tape) > 16384:
         return None, None, 8
     m = Machine(table)
-    if not 1 <= se.node <= n or se.log_len > len(log) or se.tape_len > len(tape):
+    if not 1 <= se.node <= n or se.log_len > len(log) or se.tape_len > len(tape) or se.turns > se.position:
         return None, None, 9
     if any(log[se.log_len:]) or any(tape[se.tape_len:]):
         return None, None, 9
@@ -513,11 +521,11 @@ def call(w, n, se, log, tape, count, back):
     m, s, number = given(w, n, se, log, tape)
     if number:
         return se, 0, 'refused %d' % number, 0, 0
-    s, p, steps, stop, peak, carried = wind(m, s, se.position, count, len(log), len(tape), back)
+    s, p, turns, steps, stop, peak, carried = wind(m, s, se.position, se.turns, count, len(log), len(tape), back)
     L, T = words(s[2]), words(s[3])
     log[:] = lay(L, len(log))
     tape[:] = lay(T, len(tape))
-    return Session(s[0], s[1], p, len(L), len(T)), steps, stop, peak, carried
+    return Session(s[0], s[1], p, len(L), len(T), turns), steps, stop, peak, carried
 
 
 def go_to(w, n, se, log, tape, q):
@@ -526,10 +534,10 @@ def go_to(w, n, se, log, tape, q):
     return call(w, n, se, log, tape, se.position - q, True)
 
 
-def passed(m, s, position, count, log_room, tape_room, back):
+def passed(m, s, position, turns, count, log_room, tape_room, back):
     """The states that winding by a count comes to, one by one; the present one is none of them."""
     for _ in range(count):
-        s, position, made, _, _, _ = wind(m, s, position, 1, log_room, tape_room, back)
+        s, position, turns, made, _, _, _ = wind(m, s, position, turns, 1, log_room, tape_room, back)
         if made == 0:
             return
         yield s
@@ -542,7 +550,7 @@ def search(w, n, se, log, tape, node, dir, count, back):
         return number, 0
     if not 1 <= node <= n:
         return 12, 0
-    for steps, u in enumerate(passed(m, s, se.position, count, len(log), len(tape), back), 1):
+    for steps, u in enumerate(passed(m, s, se.position, se.turns, count, len(log), len(tape), back), 1):
         if u[:2] == (node, dir):
             return 0, steps
     return 0, 0
@@ -587,7 +595,7 @@ def winder(text):
     m, s, lines = Machine(nodes_in(table, n)), START, []
     for p in range(10001):
         lines.append(' '.join(['%d' % p, '%d' % s[0], s[1], 'L'] + ['%d' % x for x in words(s[2])] + ['T'] + ['%d' % x for x in words(s[3])]))
-        s2, _, steps, stop, _, _ = wind(m, s, p, 1 if p < 10000 else 0, 1024, 1024, False)
+        s2, _, _, steps, stop, _, _ = wind(m, s, p, 0, 1 if p < 10000 else 0, 1024, 1024, False)
         if steps == 0:
             return lines + [stop]
         s = s2

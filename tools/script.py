@@ -217,28 +217,29 @@ def agrees(states, session, log, tape):
     p = min(session.position, len(states) - 1)
     if p < 0 or (len(log), len(tape)) != (64, 64):
         return False
-    node, dir, L, T = states[p]
+    (node, dir, L, T), turns = states[p]
     L, T = words(L), words(T)
-    return session.shown() == Session(node, dir, p, len(L), len(T)).shown() and (log, tape) == (lay(L, 64), lay(T, 64))
+    return session.shown() == Session(node, dir, p, len(L), len(T), turns).shown() and (log, tape) == (lay(L, 64), lay(T, 64))
 
 
 def plain_states(table, n, count, log_room, tape_room):
-    """The states from the start on, as far as the stops allow, at most so many steps."""
+    """The states from the start on, as far as the stops allow, at most so many steps; beside each how many of the steps to it changed direction."""
     nodes = accepted(table, n)
     if nodes is None:
         return []
-    m, states = Machine(nodes), [START]
+    m, states = Machine(nodes), [(START, 0)]
     while len(states) <= count:
-        s, _, steps, _, _, _ = wind(m, states[-1], len(states) - 1, 1, log_room, tape_room, False)
+        last, turns = states[-1]
+        s, _, _, steps, _, _, _ = wind(m, last, len(states) - 1, 0, 1, log_room, tape_room, False)
         if steps == 0:
             break
-        states.append(s)
+        states.append((s, turns + (s[1] != last[1])))
     return states
 
 
 # how many numbers follow a word, and whether a text or a name may follow these
 SHAPES = {
-    'text': (0, True), 'n': (1, False), 'down': (4, False), 'up': (4, False), 'tower': (1, False),
+    'text': (0, True), 'n': (1, False), 'down': (5, False), 'up': (5, False), 'tower': (1, False),
     'read': (0, True), 'accept': (0, True), 'open': (0, True), 'forward': (1, True), 'back': (1, True), 'go-to': (1, True),
     'walk': (1, True), 'walk-back': (1, True), 'log-top': (0, True), 'tape-top': (0, True), 'write': (2, True), 'read-back': (0, True),
     'back-to': (2, True), 'forward-to': (3, True), 'read-numbers': (0, True), 'write-numbers': (2, True), 'read-numbers-back': (0, True),

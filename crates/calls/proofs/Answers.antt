@@ -15,6 +15,7 @@ use Rattle.calls.specs.Moves.{Move, outcomeOf, ownTests, ownNumber, wayO
 use Rattle.calls.specs.Demand.{givenTo, RefusedCall}
 use Rattle.calls.proofs.Order.{first-of-both}
 use Rattle.calls.proofs.Stops.{Fits}
+use Rattle.calls.proofs.Moments.{FewTurns}
 use Rattle.calls.proofs.Visits.{Unrefused, found-unrefused, none-unrefused, wind-unrefused}
 use Rattle.calls.proofs.Entering.{state-given, enters-unrefused, entered, laidDown, laid-room, laid-enters}
 use Rattle.calls.proofs.MoveLaws.{moveNumber, OfWalks}
@@ -76,14 +77,14 @@ module _ (m : Move) (g : Given) where
       each-answer (λ o. o .stop ≡ refused k → RefusedCall g o) (λ j e. as-given j g)
       (λ s h e. absurd (run-unrefused m (tableIn (g .table) (g .n)) (room (g .log) (g .tape)) (momentOf (g .session) s) k e))
 
--- A call on a good state laid down in slices that it fits.
-module _ (m : Move) (r : Room) (x : Moment) (fits : Fits r (x .state)) (w : List ℕ) (n : ℕ) (A : Accepted w n) (good : Good (tableIn w n) (x .state))
+-- A call on a good state laid down in slices that it fits, with no more turns than its position.
+module _ (m : Move) (r : Room) (x : Moment) (fits : Fits r (x .state)) (w : List ℕ) (n : ℕ) (A : Accepted w n) (good : Good (tableIn w n) (x .state)) (few : FewTurns x)
     (short-log : r .log ≤ longest) (short-tape : r .tape ≤ longest) where
   pub laid-moved : ownNumber m n (x .position) ≡ none → outcomeOf m (givenTo w n (laidDown r x)) ≡ wound r (runOf m (tableIn w n) r x)
   laid-moved o =
-      moved m (givenTo w n (laidDown r x)) (x .state) (laid-enters r x fits w n A good short-log short-tape) o
+      moved m (givenTo w n (laidDown r x)) (x .state) (laid-enters r x fits w n A good few short-log short-tape) o
       ∙ ap (λ q. wound q (runOf m (tableIn w n) q x)) (laid-room r x fits)
 
   pub laid-refused : (k : ℕ) → ownNumber m n (x .position) ≡ some k → outcomeOf m (givenTo w n (laidDown r x)) ≡ refusedOutcome k (givenTo w n (laidDown r x))
   laid-refused k o =
-      own-refused m (givenTo w n (laidDown r x)) k (enters-unrefused (givenTo w n (laidDown r x)) (x .state) (laid-enters r x fits w n A good short-log short-tape)) o
+      own-refused m (givenTo w n (laidDown r x)) k (enters-unrefused (givenTo w n (laidDown r x)) (x .state) (laid-enters r x fits w n A good few short-log short-tape)) o

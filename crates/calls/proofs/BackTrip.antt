@@ -52,12 +52,12 @@ module _ (g : Given) (s : State) (h : Enters g s) where
     fits = enters-fits g s h
 
     came : Again T r facts here out home
-    came = again T r facts c here (h .holds .good) fits near
+    came = again T r facts c here (h .holds .good) fits (h .holds .turns-fit) near
 
     forward-home : forwardBy g (wound r out) ≡ wound r home
     forward-home =
-        let b : Backed T r here out = backed T r facts c here (h .holds .good) fits in
-        laid-moved (by forward (out .steps)) r (out .last) (b .fits) (g .table) (g .n) (h .accepted-table) (b .good) (h .short-log) (h .short-tape) refl
+        let b : Backed T r here out = backed T r facts c here (h .holds .good) fits (h .holds .turns-fit) in
+        laid-moved (by forward (out .steps)) r (out .last) (b .fits) (g .table) (g .n) (h .accepted-table) (b .good) (b .few) (h .short-log) (h .short-tape) refl
 
     wound-back : Restored g (backOf g c) (forwardBy g (backOf g c)) × (forwardBy g (backOf g c) .stop ≡ spent)
     wound-back =

@@ -2,7 +2,7 @@
 use mathlib.Core.Path.{_≡_, refl, ap, _∙_, subst}
 use mathlib.Core.Bool.{Bool, true, false, cond}
 use mathlib.Core.Option.{Option, none, some}
-use Prim.Native.Nat.{ℕ, _+_, _-_, _≤_, min}
+use Prim.Native.Nat.{ℕ, _+_, _-_, _≤_, min, zero-le}
 use native.Mathlib.Omega.{arith}
 use lib.Dec.{leb}
 use Rattle.term.specs.Choice.{choose}
@@ -11,7 +11,7 @@ use Rattle.machine.specs.Machine.{State, afterFrom}
 use Rattle.machine.specs.Carried.{carriedOver}
 use Rattle.machine.proofs.Sums.{between-up, between-down}
 use Rattle.calls.specs.Session.{Given}
-use Rattle.calls.specs.Stops.{Way, forward, back, Moment, moment, momentOf, beginning, Room, room}
+use Rattle.calls.specs.Stops.{Way, forward, back, Moment, momentOf, beginning, momentAfter, Room, room}
 use Rattle.calls.specs.Winding.{Run, wind}
 use Rattle.calls.specs.Calls.{stateGiven, callNumber, wound, outcomeBy, windOf, goToOf}
 use Rattle.calls.specs.Allowed.{allowed}
@@ -27,9 +27,9 @@ IsForward back = ⊥
 pub forward-not-back : forward ≡ back → ⊥
 forward-not-back e = subst IsForward e tt
 
-module _ (T : Table) (r : Room) (s₀ : State) (p : ℕ) (s : State) (h : Stood T r s₀ p (moment s p)) where
+module _ (T : Table) (r : Room) (s₀ : State) (p : ℕ) (s : State) (h : Stood T r s₀ p (momentAfter T s₀ p s)) where
   abbrev now : Moment
-  now = moment s p
+  now = momentAfter T s₀ p s
 
   module _ (c : ℕ) where
     pub counted : wind forward T r c now .steps ≡ allowed T s₀ r c p
@@ -42,7 +42,7 @@ module _ (T : Table) (r : Room) (s₀ : State) (p : ℕ) (s : State) (h : Stood 
         (subst (λ i. Trail T r (beginning s₀) (p + i) (wind forward T r j now .last)) (reaches forward T r c now j l) (forward-on T r (beginning s₀) j now p (h .trail) .trail))
 
     pub off : Off T r (beginning s₀) c p (wind back T r c now)
-    off = back-off T r (beginning s₀) (h .facts) (h .good) (h .fits) c (h .trail) (λ l. refl)
+    off = back-off T r (beginning s₀) (h .facts) (h .good) (h .fits) zero-le c (h .trail) (λ l. refl)
 
     pub forward-arrives : Arrives T r s₀ p (p + allowed T s₀ r c p) (wind forward T r c now)
     forward-arrives = record {

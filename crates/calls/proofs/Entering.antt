@@ -22,6 +22,7 @@ use Rattle.calls.specs.Demand.{Standing, givenTo}
 use Rattle.calls.proofs.Held.{held-exactly}
 use Rattle.calls.proofs.Unrefused.{lent-seven, lent-log-eight, lent-tape-eight, lent-unrefused, call-as-lent, call-nine, call-unrefused}
 use Rattle.calls.proofs.Stops.{Fits}
+use Rattle.calls.proofs.Moments.{FewTurns}
 
 -- A call that enters at a state: that state is given, no number refuses it,
 module _ (g : Given) (s : State) (h : Enters g s) where
@@ -79,12 +80,12 @@ laidDown r m = record { session = sessionAt m; log = logSlice r m; tape = tapeSl
 -- What stands is this for a state that it holds.
 pub held-laid-down : (T : Table) (st : Standing) (s : State) → Holds T (st .session) (st .log) (st .tape) s → st ≡ laidDown (room (st .log) (st .tape)) (momentOf (st .session) s)
 held-laid-down T st s h = λ i. record {
-  session = record { node = h .node-is i; dir = h .dir-is i; position = st .session .position; logLength = h .log-length i; tapeLength = h .tape-length i };
+  session = record { node = h .node-is i; dir = h .dir-is i; position = st .session .position; logLength = h .log-length i; tapeLength = h .tape-length i; turns = st .session .turns };
   log = h .log-lies i;
   tape = h .tape-lies i;
 }
 
--- A call on a good state laid down in slices that it fits.
+-- A call on a good state laid down in slices that it fits, with no more turns than its position.
 module _ (r : Room) (m : Moment) (fits : Fits r (m .state)) where
   laid-log-length : length (logSlice r m) ≡ r .log
   laid-log-length = slice-length (r .log) (logWords (m .state .log)) (fits .log-fits)
@@ -95,8 +96,8 @@ module _ (r : Room) (m : Moment) (fits : Fits r (m .state)) where
   pub laid-room : room (logSlice r m) (tapeSlice r m) ≡ r
   laid-room = λ i. record { log = laid-log-length i; tape = laid-tape-length i }
 
-  laid-holds : (T : Table) → Good T (m .state) → Holds T (sessionAt m) (logSlice r m) (tapeSlice r m) (m .state)
-  laid-holds T good = record {
+  laid-holds : (T : Table) → Good T (m .state) → FewTurns m → Holds T (sessionAt m) (logSlice r m) (tapeSlice r m) (m .state)
+  laid-holds T good few = record {
     node-is = refl;
     dir-is = refl;
     good = good;
@@ -106,13 +107,14 @@ module _ (r : Room) (m : Moment) (fits : Fits r (m .state)) where
     tape-length = refl;
     log-lies = rw laid-log-length refl;
     tape-lies = rw laid-tape-length refl;
+    turns-fit = few;
   }
 
-  module _ (w : List ℕ) (n : ℕ) (A : Accepted w n) (good : Good (tableIn w n) (m .state)) (short-log : r .log ≤ longest) (short-tape : r .tape ≤ longest) where
+  module _ (w : List ℕ) (n : ℕ) (A : Accepted w n) (good : Good (tableIn w n) (m .state)) (few : FewTurns m) (short-log : r .log ≤ longest) (short-tape : r .tape ≤ longest) where
     pub laid-enters : Enters (givenTo w n (laidDown r m)) (m .state)
     laid-enters = record {
       accepted-table = A;
       short-log = rw laid-log-length short-log;
       short-tape = rw laid-tape-length short-tape;
-      holds = laid-holds (tableIn w n) good;
+      holds = laid-holds (tableIn w n) good few;
     }

@@ -40,6 +40,7 @@ record Formed (T : Table) (se : Session) (ls ts : List ℕ) : Type 0 where
   tape-fits : se .tapeLength ≤ length ts
   log-clean : allZero (drop (se .logLength) ls) ≡ true
   tape-clean : allZero (drop (se .tapeLength) ts) ≡ true
+  turns-fit : se .turns ≤ se .position
 
 -- what is to be shown of the state found, if one is
 abbrev HoldsIf : Table → Session → List ℕ → List ℕ → Option State → Type 0
@@ -52,11 +53,12 @@ module _ (T : Table) (se : Session) (ls ts : List ℕ) where
   formed h =
       let tests = simp and-eq-true-iff at h in
       record {
-        node-there = record { from-one = leb-true 1 (se .node) (tests .0 .0 .0 .0 .0); to-last = leb-true (se .node) (T .nodes) (tests .0 .0 .0 .0 .1) };
-        log-fits = leb-true (se .logLength) (length ls) (tests .0 .0 .0 .1);
-        tape-fits = leb-true (se .tapeLength) (length ts) (tests .0 .0 .1);
-        log-clean = tests .0 .1;
-        tape-clean = tests .1;
+        node-there = record { from-one = leb-true 1 (se .node) (tests .0 .0 .0 .0 .0 .0); to-last = leb-true (se .node) (T .nodes) (tests .0 .0 .0 .0 .0 .1) };
+        log-fits = leb-true (se .logLength) (length ls) (tests .0 .0 .0 .0 .1);
+        tape-fits = leb-true (se .tapeLength) (length ts) (tests .0 .0 .0 .1);
+        log-clean = tests .0 .0 .1;
+        tape-clean = tests .0 .1;
+        turns-fit = leb-true (se .turns) (se .position) (tests .1);
       }
 
   -- the state found, by what `wellFormed` and the two readings came out as
@@ -81,6 +83,7 @@ module _ (T : Table) (se : Session) (ls ts : List ℕ) where
         tape-length = words-many (tapeWords t) ts (se .tapeLength) (f refl .tape-fits) (m t refl .1);
         log-lies = sym (laid (logWords L) ls (se .logLength) (f refl .log-fits) (l L refl .1) (f refl .log-clean));
         tape-lies = sym (laid (tapeWords t) ts (se .tapeLength) (f refl .tape-fits) (m t refl .1) (f refl .tape-clean));
+        turns-fit = f refl .turns-fit;
       }
 
   found-holds : (s : State) → stateIn T se ls ts ≡ some s → Holds T se ls ts s
@@ -102,6 +105,7 @@ module _ (T : Table) (se : Session) (ls ts : List ℕ) where
           le-leb (se .tapeLength) (length ts) (h .tape-fits),
           zeros-above (logWords (s .log)) ls (se .logLength) (h .log-length) (h .log-lies),
           zeros-above (tapeWords (s .tape)) ts (se .tapeLength) (h .tape-length) (h .tape-lies),
+          le-leb (se .turns) (se .position) (h .turns-fit),
         )
 
     holds-found : stateIn T se ls ts ≡ some s

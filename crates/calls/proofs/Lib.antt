@@ -24,4 +24,5 @@ pub mod Carried
 pub mod Third
 pub mod RoundTrip
 pub mod BackTrip
+pub mod Aside
 pub mod ByRows

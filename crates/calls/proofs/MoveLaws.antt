@@ -10,7 +10,7 @@ use Rattle.machine.specs.Machine.{State}
 use Rattle.machine.specs.Good.{Good}
 use Rattle.machine.specs.Carried.{carriedBetween}
 use Rattle.calls.specs.Session.{Stop, Outcome, Given}
-use Rattle.calls.specs.Stops.{Way, back, Moment, moment, beginning, Room, room}
+use Rattle.calls.specs.Stops.{Way, back, Moment, beginning, momentAfter, Room, room}
 use Rattle.calls.specs.Winding.{Run, ended, wind}
 use Rattle.calls.specs.Calls.{stateGiven, callTests, outcomeBy}
 use Rattle.calls.specs.Visits.{foundBy}
@@ -54,4 +54,4 @@ module _ (T : Table) (r : Room) (s₀ : State) where
 pub record MoveLaws (m : Move) : Type 1 where
   pub shape : (g : Given) → outcomeOf m g ≡ shaped m g
   pub walks : (T : Table) (r : Room) (P : Run → Type 0) (x : Moment) → OfWalks (wayOf m (x .position)) T r P x → P (runOf m T r x)
-  pub takes : (T : Table) (r : Room) (s₀ : State) (p : ℕ) (s : State) → Stood T r s₀ p (moment s p) → Takes T r s₀ (wayOf m p) p (course T s₀ r m p) (runOf m T r (moment s p))
+  pub takes : (T : Table) (r : Room) (s₀ : State) (p : ℕ) (s : State) → Stood T r s₀ p (momentAfter T s₀ p s) → Takes T r s₀ (wayOf m p) p (course T s₀ r m p) (runOf m T r (momentAfter T s₀ p s))

@@ -10,15 +10,16 @@ use Rattle.calls.specs.Stops.{Way, forward, back, Moment, Room}
 use Rattle.calls.specs.Winding.{Run, wind}
 use Rattle.calls.specs.Visits.{spot, seek, Sought, visited, unvisited}
 use Rattle.calls.proofs.Stops.{Fits}
+use Rattle.calls.proofs.Moments.{FewTurns}
 use Rattle.calls.proofs.Runs.{begun, trail-good, forward-on}
 use Rattle.calls.proofs.Visits.{sought}
 use Rattle.calls.proofs.Retrace.{backed}
 
-module _ (T : Table) (r : Room) (F : Facts T) (m : Moment) (good : Good T (m .state)) (fits : Fits r (m .state)) where
+module _ (T : Table) (r : Room) (F : Facts T) (m : Moment) (good : Good T (m .state)) (fits : Fits r (m .state)) (few : FewTurns m) where
   -- A walk ends at a good state.
   walk-good : (way : Way) (c : ℕ) → Good T (wind way T r c m .last .state)
   walk-good forward c = trail-good T r m F good (forward-on T r m c m 0 begun .trail)
-  walk-good back c = backed T r F c m good fits .good
+  walk-good back c = backed T r F c m good fits few .good
 
   pub nowhere-found : (way : Way) (d : Dir) (c : ℕ) → seek way T r (spot 0 d) c m ≡ wind way T r c m
   nowhere-found way d c = by-search (sought way T r (spot 0 d) c m)

@@ -20,7 +20,7 @@ use Rattle.calls.specs.Stops.{forward, back, Moment, Room, greatest, nex
 use Rattle.calls.specs.Winding.{Run, ended, wind}
 use Rattle.calls.proofs.Stops.{Fits, no-halt-forward, start-before-jam, halt-before-full, no-stop-next, fits-next}
 use Rattle.calls.proofs.Winds.{each-run}
-use Rattle.calls.proofs.Moments.{next-forward, next-back, next-redone}
+use Rattle.calls.proofs.Moments.{FewTurns, next-forward, next-back, next-few, next-redone}
 use Rattle.calls.proofs.Runs.{Trail, begun, then, trail-none, trail-after, trail-position, forward-on}
 use Rattle.calls.proofs.Visits.{wind-none, wind-goes-on}
 
@@ -77,11 +77,12 @@ module _ (T : Table) (r : Room) where
     pub trail : Trail T r (run .last) (run .steps) m
     pub good : Good T (run .last .state)
     pub fits : Fits r (run .last .state)
+    pub few : FewTurns (run .last)
     pub carried-is : run .carried ≡ carriedOver T (run .last .state) (run .steps) 0
 
   module _ (F : Facts T) where
-    backed-nowhere : (m : Moment) (x : Stop) → Good T (m .state) → Fits r (m .state) → Backed m (ended T m x)
-    backed-nowhere m x g f = record { trail = begun; good = g; fits = f; carried-is = sym (over-none T (m .state) 0) }
+    backed-nowhere : (m : Moment) (x : Stop) → Good T (m .state) → Fits r (m .state) → FewTurns m → Backed m (ended T m x)
+    backed-nowhere m x g f k = record { trail = begun; good = g; fits = f; few = k; carried-is = sym (over-none T (m .state) 0) }
 
     past-start : (c : ℕ) (m : Moment) → stopBefore back T r (suc c) m ≡ none → m .position ≡ 0 → ⊥
     past-start c m e z = Option·some-ne-none Stop.start (sym (halt-before-full back T r (suc c) m Stop.start (start-before-jam T c m z)) ∙ e)
@@ -93,16 +94,17 @@ module _ (T : Table) (r : Room) where
         ap₂ _+_ (back-carries T F (m .state) (u .state) g came ∙ sym (after-carries T (run .last .state) (run .steps) (trail-after T r (run .last) (h .trail)))) (h .carried-is)
         ∙ sym (over-last T (run .last .state) (run .steps) 0 (run .steps) (zero-add (run .steps)))
 
-    pub backed : (c : ℕ) (m : Moment) → Good T (m .state) → Fits r (m .state) → Backed m (wind back T r c m)
+    pub backed : (c : ℕ) (m : Moment) → Good T (m .state) → Fits r (m .state) → FewTurns m → Backed m (wind back T r c m)
     backed =
-        each-run back T r (λ c m run. Good T (m .state) → Fits r (m .state) → Backed m run) (λ m. backed-nowhere m spent) (λ c m x e. backed-nowhere m x)
-        (λ c m u run e n more g f.
+        each-run back T r (λ c m run. Good T (m .state) → Fits r (m .state) → FewTurns m → Backed m run) (λ m. backed-nowhere m spent) (λ c m x e. backed-nowhere m x)
+        (λ c m u run e n more g f k.
         let came : stepBack T (m .state) ≡ some (u .state) = next-back T m u n .0 in
-        let h : Backed u run = more (back-keeps-good T F (u .state) (m .state) g came) (fits-next back T r (suc c) m e u n) in
+        let h : Backed u run = more (back-keeps-good T F (u .state) (m .state) g came) (fits-next back T r (suc c) m e u n) (next-few T m u back k n) in
         record {
           trail = then (h .trail) (next-redone T m u F g (past-start c m e) n) f;
           good = h .good;
           fits = h .fits;
+          few = h .few;
           carried-is = sums m u run g came h;
         })
 
@@ -113,11 +115,11 @@ module _ (T : Table) (r : Room) where
       pub spent-is : home .stop ≡ spent
       pub carried-is : home .carried ≡ out .carried
 
-    pub again : (c : ℕ) (m : Moment) → Good T (m .state) → Fits r (m .state) → m .position ≤ greatest
+    pub again : (c : ℕ) (m : Moment) → Good T (m .state) → Fits r (m .state) → FewTurns m → m .position ≤ greatest
         → Again m (wind back T r c m) (wind forward T r (wind back T r c m .steps) (wind back T r c m .last))
-    again c m g f l =
+    again c m g f k l =
         let out : Run = wind back T r c m in
-        let h : Backed m out = backed c m g f in
+        let h : Backed m out = backed c m g f k in
         let at : m .position ≡ out .last .position + out .steps = trail-position T r (out .last) (h .trail) in
         let a = along (out .steps) (h .trail) (omega arith) in
         record {

@@ -17,7 +17,7 @@ use Rattle.calls.specs.Moves.{by}
 use Rattle.calls.specs.Demand.{Standing}
 use Rattle.calls.specs.Trips.{backBy, Restored}
 use Rattle.calls.proofs.Stops.{Fits}
-use Rattle.calls.proofs.Runs.{Trail, begun, trail-none, trail-fits, trail-good, On, forward-on, Off, back-off}
+use Rattle.calls.proofs.Runs.{Trail, begun, trail-none, trail-few, trail-fits, trail-good, On, forward-on, Off, back-off}
 use Rattle.calls.proofs.Entering.{entered, laidDown, held-laid-down, enters-fits}
 use Rattle.calls.proofs.Answers.{move-refused, moved, laid-moved}
 
@@ -56,7 +56,7 @@ module _ (g : Given) (c : ℕ) (s : State) (h : Enters g s) where
   trail = rw zero-add at (on .trail)
 
   off : Off T′ r here (out .steps) (out .steps) home
-  off = back-off T′ r here facts (h .holds .good) fits (out .steps) trail (λ l. absurd (lt-irrefl (out .steps) l))
+  off = back-off T′ r here facts (h .holds .good) fits (h .holds .turns-fit) (out .steps) trail (λ l. absurd (lt-irrefl (out .steps) l))
 
   home-is : laidDown r (home .last) ≡ given
   home-is = ap (laidDown r) (sym came) ∙ sym (held-laid-down T′ given s (h .holds))
@@ -66,7 +66,7 @@ module _ (g : Given) (c : ℕ) (s : State) (h : Enters g s) where
 
   back-home : backBy g (wound r out) ≡ wound r home
   back-home =
-      laid-moved (by back (out .steps)) r (out .last) (trail-fits T′ r here fits trail) (g .table) (g .n) (h .accepted-table) (trail-good T′ r here facts (h .holds .good) trail)
+      laid-moved (by back (out .steps)) r (out .last) (trail-fits T′ r here fits trail) (g .table) (g .n) (h .accepted-table) (trail-good T′ r here facts (h .holds .good) trail) (trail-few T′ r here (h .holds .turns-fit) trail)
       (h .short-log) (h .short-tape) refl
 
   -- Each step taken back carries what it carried.

@@ -2,23 +2,25 @@
 use mathlib.Core.Path.{_≡_, refl, sym, ap, ap₂, _∙_, subst}
 use mathlib.Core.Option.{none, some}
 use Prim.Native.Nat.{ℕ, zero, suc, _+_, _-_, _≤_, _<_, min}
-use native.Mathlib.Nat.{add-zero, sub-zero}
+use native.Mathlib.Nat.{zero-add, add-zero, sub-zero}
 use native.Mathlib.Omega.{arith}
 use Rattle.term.specs.Table.{Table}
 use Rattle.term.specs.Facts.{Facts}
 use Rattle.machine.specs.Machine.{State, afterFrom}
 use Rattle.machine.specs.Good.{Good}
 use Rattle.machine.specs.Carried.{carriedBack, carriedAfter, carriedOver}
+use Rattle.machine.specs.Turns.{turnsAfter}
 use Rattle.machine.proofs.Reverse.{keeps-good}
 use Rattle.machine.proofs.Carried.{back-carries}
 use Rattle.machine.proofs.Sums.{after-carries, over-none, over-first, over-last}
+use Rattle.machine.proofs.Turns.{turns-none, turns-next}
 use Rattle.calls.specs.Session.{Stop, spent, jam, far, logFull, tapeFull, found, answer, refused}
-use Rattle.calls.specs.Stops.{forward, back, Moment, moment, beginning, Room, greatest, nextBy, stopBefore}
+use Rattle.calls.specs.Stops.{forward, back, Moment, moment, beginning, momentAfter, turnTo, Room, greatest, nextBy, stopBefore}
 use Rattle.calls.specs.Winding.{Run, ended, longer, wind}
 use Rattle.calls.specs.Allowed.{stopAfter, allowed}
 use Rattle.calls.proofs.Stops.{Fits, spent-first, start-before-jam, no-halt-back, halt-before-full, no-stop-next, fits-next, goes}
 use Rattle.calls.proofs.Winds.{each-run}
-use Rattle.calls.proofs.Moments.{next-forward, next-back, next-undone}
+use Rattle.calls.proofs.Moments.{FewTurns, next-forward, next-back, next-few, next-undone}
 
 -- "Position is 0 to 4,294,967,295": no run forward passes its greatest.
 pub forward-near : (T : Table) (r : Room) (c : ℕ) (m : Moment) → m .position ≤ greatest → wind forward T r c m .last .position ≤ greatest
@@ -62,6 +64,17 @@ module _ (T : Table) (r : Room) (m₀ : Moment) where
       let before : u .position ≡ m₀ .position + _ = trail-position t in
       let at : m .position ≡ suc (u .position) = ap (λ x. x .position) (next-forward T u m e .1) in
       omega arith
+
+  pub trail-turns : {k : ℕ} {m : Moment} → Trail T r m₀ k m → m .turns ≡ m₀ .turns + turnsAfter T (m₀ .state) k
+  trail-turns begun = sym (ap (λ k. m₀ .turns + k) (turns-none T (m₀ .state)) ∙ add-zero (m₀ .turns))
+  trail-turns (then {k = k} {u = u} {m = m} t e f) =
+      let before : u .turns ≡ m₀ .turns + turnsAfter T (m₀ .state) k = trail-turns t in
+      let at : m .turns ≡ u .turns + turnTo u (m .state) = ap (λ x. x .turns) (next-forward T u m e .1) in
+      omega (arith, turns-next T (m₀ .state) k (trail-after t) (trail-after (then t e f)))
+
+  pub trail-few : FewTurns m₀ → {k : ℕ} {m : Moment} → Trail T r m₀ k m → FewTurns m
+  trail-few few begun = few
+  trail-few few (then {u = u} {m = m} t e f) = next-few T u m forward (trail-few few t) e
 
   pub trail-fits : Fits r (m₀ .state) → {k : ℕ} {m : Moment} → Trail T r m₀ k m → Fits r (m .state)
   trail-fits f₀ begun = f₀
@@ -115,7 +128,7 @@ module _ (T : Table) (r : Room) (m₀ : Moment) where
     unhindered = o .unhindered;
   }
 
-  module _ (F : Facts T) (good : Good T (m₀ .state)) (fits : Fits r (m₀ .state)) where
+  module _ (F : Facts T) (good : Good T (m₀ .state)) (fits : Fits r (m₀ .state)) (few : FewTurns m₀) where
     -- It meets the start only where the trail began at position 0.
     pub back-off : (c : ℕ) {k : ℕ} {m : Moment} → Trail T r m₀ k m → (k < c → m₀ .position ≡ 0) → Off c k (wind back T r c m)
     unfolding wind
@@ -129,7 +142,7 @@ module _ (T : Table) (r : Room) (m₀ : Moment) where
         good-there = trail-good F good t
 
         undone : nextBy back T m ≡ some u
-        undone = next-undone T u m F good-there e
+        undone = next-undone T u m F good-there (trail-few few t) e
 
         carries : carriedBack T (m .state) ≡ carriedAfter T (m₀ .state) k
         carries =
@@ -145,8 +158,11 @@ module _ (T : Table) (r : Room) (m₀ : Moment) where
 -- From a state at position 0.
 module _ (T : Table) (r : Room) (s₀ : State) where
   -- where the trail has come to after p steps
-  pub trail-moment : (p : ℕ) {m : Moment} → Trail T r (beginning s₀) p m → m ≡ moment (m .state) p
-  trail-moment p {m} t = let at : m .position ≡ p = trail-position T r (beginning s₀) t ∙ omega arith in λ i. moment (m .state) (at i)
+  pub trail-moment : (p : ℕ) {m : Moment} → Trail T r (beginning s₀) p m → m ≡ momentAfter T s₀ p (m .state)
+  trail-moment p {m} t =
+      let at : m .position ≡ p = trail-position T r (beginning s₀) t ∙ zero-add p in
+      let turns : m .turns ≡ turnsAfter T s₀ p = trail-turns T r (beginning s₀) t ∙ zero-add (turnsAfter T s₀ p) in
+      λ i. moment (m .state) (at i) (turns i)
 
   -- what the plain machine's tests say there
   trail-stops : (c p : ℕ) {m : Moment} → Trail T r (beginning s₀) p m → stopAfter T s₀ r c p ≡ stopBefore forward T r c m

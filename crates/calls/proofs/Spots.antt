@@ -9,7 +9,7 @@ use Rattle.term.specs.Table.{Table}
 use Rattle.machine.specs.Machine.{State}
 use Rattle.machine.proofs.Sums.{over-none, between-down}
 use Rattle.calls.specs.Session.{Stop, Given}
-use Rattle.calls.specs.Stops.{forward, back, Moment, moment, Room}
+use Rattle.calls.specs.Stops.{forward, back, Moment, momentAfter, Room}
 use Rattle.calls.specs.Winding.{Run, ended, wind}
 use Rattle.calls.specs.Visits.{Spot, visitNumber, backToOf, forwardToOf, VisitAfter, foundBy, Sought, visited, unvisited}
 use Rattle.calls.specs.Allowed.{stopAfter, allowed}
@@ -28,9 +28,9 @@ module _ (T : Table) (r : Room) (s₀ : State) where
   found-arrives : {p q : ℕ} {run : Run} → Arrives T r s₀ p q run → Arrives T r s₀ p q (foundBy run)
   found-arrives a = record { trail = a .trail; steps-are = a .steps-are; carried-is = a .carried-is }
 
-  module _ (p : ℕ) (s : State) (h : Stood T r s₀ p (moment s p)) (v : Spot) where
+  module _ (p : ℕ) (s : State) (h : Stood T r s₀ p (momentAfter T s₀ p s)) (v : Spot) where
     abbrev now : Moment
-    now = moment s p
+    now = momentAfter T s₀ p s
 
     -- Forward: every visit that the count reaches is one on the way.
     module _ (c : ℕ) where
@@ -168,12 +168,12 @@ pub forward-to-laws : (v : Spot) (c : ℕ) → MoveLaws (forward-to v c)
 forward-to-laws v c = record {
   shape = forward-to-shape v c;
   walks = λ T r P x w. each-sought P (λ k f. w .found k) (w .walk c) (sought forward T r v c x);
-  takes = λ T r s₀ p s h. forward-takes T r s₀ p s h v c (sought forward T r v c (moment s p));
+  takes = λ T r s₀ p s h. forward-takes T r s₀ p s h v c (sought forward T r v c (momentAfter T s₀ p s));
 }
 
 pub back-to-laws : (v : Spot) → MoveLaws (back-to v)
 back-to-laws v = record {
   shape = back-to-shape v;
   walks = λ T r P x w. each-sought P (λ k f. w .found k) (w .none) (sought-back T r v x);
-  takes = λ T r s₀ p s h. back-takes T r s₀ p s h v (sought-back T r v (moment s p));
+  takes = λ T r s₀ p s h. back-takes T r s₀ p s h v (sought-back T r v (momentAfter T s₀ p s));
 }

@@ -13,14 +13,16 @@ use Rattle.term.proofs.Facts.{accepted-facts}
 use Rattle.machine.specs.Machine.{State, startState}
 use Rattle.machine.specs.Good.{Good}
 use Rattle.machine.proofs.After.{start-good}
+use Rattle.machine.proofs.Turns.{turns-at-most}
 use Rattle.calls.specs.Session.{Outcome, Given}
-use Rattle.calls.specs.Stops.{Moment, moment, beginning, Room, room}
+use Rattle.calls.specs.Stops.{Moment, beginning, startMoment, momentAfter, Room, room}
 use Rattle.calls.specs.Winding.{Run}
 use Rattle.calls.specs.Calls.{longest, openNumber, wound, openOf}
 use Rattle.calls.specs.Moves.{Move, outcomeOf, ownNumber, wayOf, runOf, course}
 use Rattle.calls.specs.Demand.{Call, own, other, AllPermitted, Standing, leftByOpen, leftBy, givenTo, positionBy, AsPlain, AsOwn, Demanded, ThirdDemand}
 use Rattle.calls.proofs.Unrefused.{lent-unrefused}
 use Rattle.calls.proofs.Stops.{Fits}
+use Rattle.calls.proofs.Moments.{FewTurns}
 use Rattle.calls.proofs.Runs.{Unhindered, Trail, begun, trail-after, trail-fits, trail-good, trail-moment}
 use Rattle.calls.proofs.Visits.{Unrefused}
 use Rattle.calls.proofs.Entering.{laidDown}
@@ -47,11 +49,11 @@ module _ (w : List ℕ) (n : ℕ) (s₀ : State) (r : Room) where
   -- what stands is the plain machine's after p steps, all within the slices
   pub record OnTrail (p : ℕ) (st : Standing) : Type 0 where
     pub state : State
-    pub trail : Trail T r (beginning s₀) p (moment state p)
-    pub laid : st ≡ laidDown r (moment state p)
+    pub trail : Trail T r (beginning s₀) p (momentAfter T s₀ p state)
+    pub laid : st ≡ laidDown r (momentAfter T s₀ p state)
 
   on-trail : (p : ℕ) (m : Moment) → Trail T r (beginning s₀) p m → OnTrail p (laidDown r m)
-  on-trail p m t = let is : m ≡ moment (m .state) p = trail-moment T r s₀ p t in record { state = m .state; trail = subst (λ x. Trail T r (beginning s₀) p x) is t; laid = ap (laidDown r) is }
+  on-trail p m t = let is : m ≡ momentAfter T s₀ p (m .state) = trail-moment T r s₀ p t in record { state = m .state; trail = subst (λ x. Trail T r (beginning s₀) p x) is t; laid = ap (laidDown r) is }
 
   as-plain : (p : ℕ) (st : Standing) → OnTrail p st → AsPlain T s₀ r p st
   as-plain p st h = record {
@@ -87,9 +89,12 @@ module _ (w : List ℕ) (n : ℕ) (s₀ : State) (r : Room) where
     facts = accepted-facts w n (b .accepted-table)
 
     -- A call on what stands after p steps, with a slice that has the opened table.
-    module _ (m : Move) (u : List ℕ) (same : take (5 * n) u ≡ take (5 * n) w) (p : ℕ) (s : State) (t : Trail T r (beginning s₀) p (moment s p)) where
+    module _ (m : Move) (u : List ℕ) (same : take (5 * n) u ≡ take (5 * n) w) (p : ℕ) (s : State) (t : Trail T r (beginning s₀) p (momentAfter T s₀ p s)) where
+      abbrev now : Moment
+      now = momentAfter T s₀ p s
+
       abbrev given : Given
-      given = givenTo u n (laidDown r (moment s p))
+      given = givenTo u n (laidDown r now)
 
       fits-now : Fits r s
       fits-now = trail-fits T r (beginning s₀) (b .fits) t
@@ -100,12 +105,15 @@ module _ (w : List ℕ) (n : ℕ) (s₀ : State) (r : Room) where
       good-now : Good (tableIn u n) s
       good-now = subst (λ S. Good S s) (sym (ignored u w n same)) (trail-good T r (beginning s₀) facts (b .good) t)
 
+      few-now : FewTurns now
+      few-now = turns-at-most T s₀ p
+
       by-own : (o : Option ℕ) → ownNumber m (T .nodes) p ≡ o → Owned o m p (positionBy T s₀ r m p) given (outcomeOf m given)
       by-own none e =
-          rw (laid-moved m r (moment s p) fits-now u n accepted-now good-now (b .short-log) (b .short-tape) (rw nodes-are at e), ignored u w n same, e)
-          (wound-own m p given (runOf m T r (moment s p)) (laws m .takes T r s₀ p s (record { facts = facts; good = b .good; fits = b .fits; trail = t })) (run-unrefused m T r (moment s p)))
+          rw (laid-moved m r now fits-now u n accepted-now good-now few-now (b .short-log) (b .short-tape) (rw nodes-are at e), ignored u w n same, e)
+          (wound-own m p given (runOf m T r now) (laws m .takes T r s₀ p s (record { facts = facts; good = b .good; fits = b .fits; trail = t })) (run-unrefused m T r now))
       by-own (some k) e =
-          rw (laid-refused m r (moment s p) fits-now u n accepted-now good-now (b .short-log) (b .short-tape) k (rw nodes-are at e), e)
+          rw (laid-refused m r now fits-now u n accepted-now good-now few-now (b .short-log) (b .short-tape) k (rw nodes-are at e), e)
           (record { as-own = (refl, as-given k given); stands = record { state = s; trail = t; laid = refl } })
 
     owned : (m : Move) (u : List ℕ) → take (5 * n) u ≡ take (5 * n) w → (p : ℕ) (st : Standing) → OnTrail p st
@@ -132,7 +140,7 @@ module _ (w : List ℕ) (n : ℕ) (ls ts : List ℕ) (A : Accepted w n) (h : len
 
   open-stands : OnTrail w n startState (room ls ts) 0 (leftByOpen (openOf w n ls ts))
   unfolding openOf
-  open-stands = rw opened (record { state = startState; trail = begun; laid = refl })
+  open-stands = rw opened (on-trail w n startState (room ls ts) 0 startMoment begun)
 
   unrefused : openOf w n ls ts .refusal ≡ 0
   unfolding openOf

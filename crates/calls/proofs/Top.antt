@@ -17,8 +17,9 @@ use Rattle.machine.specs.Good.{TapeIn, Good}
 use Rattle.machine.specs.Slice.{slice, readTape}
 use Rattle.machine.proofs.Load.{words-above, tape-read}
 use Rattle.machine.proofs.After.{after-good}
+use Rattle.machine.proofs.Turns.{turns-at-most}
 use Rattle.calls.specs.Session.{Given}
-use Rattle.calls.specs.Stops.{moment, Room}
+use Rattle.calls.specs.Stops.{Moment, momentAfter, Room}
 use Rattle.calls.specs.Calls.{longest, callTests, callNumber, Enters}
 use Rattle.calls.specs.Top.{Which, log, tape, Shown, shown, notShown, shows, shownGiven, topNumber, topBy, topOf, sliceGiven, lengthGiven, OnTop, IsEmpty, PointsAt}
 use Rattle.calls.specs.Demand.{Standing, givenTo, AsPlain}
@@ -230,12 +231,13 @@ pub plain-shown : (w u : List ℕ) (n : ℕ) → Accepted w n → take (5 * n) u
     → (which : Which) → topOf which (givenTo u n st) ≡ topBy none (shows which (plain .state))
 plain-shown w u n A same r short-log short-tape s₀ good₀ p st plain log-long tape-long which =
     let s = plain .state in
-    let laid : laidDown r (moment s p) ≡ st = λ i. record { session = sym (plain .session-is) i; log = sym (plain .log-is) i; tape = sym (plain .tape-is) i } in
+    let m : Moment = momentAfter (tableIn w n) s₀ p s in
+    let laid : laidDown r m ≡ st = λ i. record { session = sym (plain .session-is) i; log = sym (plain .log-is) i; tape = sym (plain .tape-is) i } in
     let fits : Fits r s = record {
       log-fits = laid-fits (r .log) (logWords (s .log)) (st .log) (plain .log-is) log-long;
       tape-fits = laid-fits (r .tape) (tapeWords (s .tape)) (st .tape) (plain .tape-is) tape-long;
     } in
     let good : Good (tableIn u n) s = subst (λ T. Good T s) (sym (ignored u w n same)) (after-good w n A s₀ good₀ p s (plain .after-is)) in
     subst (λ z. topOf which (givenTo u n z) ≡ topBy none (shows which s)) laid
-    (top-of-state which (givenTo u n (laidDown r (moment s p))) s
-    (laid-enters r (moment s p) fits u n (accepted-ignores w u n (sym same) A) good short-log short-tape))
+    (top-of-state which (givenTo u n (laidDown r m)) s
+    (laid-enters r m fits u n (accepted-ignores w u n (sym same) A) good (turns-at-most (tableIn w n) s₀ p) short-log short-tape))

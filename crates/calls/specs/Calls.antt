@@ -61,6 +61,7 @@ sessionAt m = record {
   position = m .position;
   logLength = logSize (m .state);
   tapeLength = tapeSize (m .state);
+  turns = m .turns;
 }
 
 abbrev pub logSlice : Room → Moment → List ℕ
@@ -71,7 +72,7 @@ tapeSlice r m = slice (r .tape) (tapeWords (m .state .tape))
 
 -- "a refused open answers node 0, down, and 0 for every other number", and no lent word differs.
 abbrev pub noSession : Session
-noSession = record { node = 0; dir = down; position = 0; logLength = 0; tapeLength = 0 }
+noSession = record { node = 0; dir = down; position = 0; logLength = 0; tapeLength = 0; turns = 0 }
 
 -- "Open gives the start state at position 0 and zeroes both slices."
 abbrev pub openingBy : Option ℕ → List ℕ → List ℕ → Opening

@@ -1,4 +1,4 @@
--- The third demand of document 01, with the calls that document 02, change 5, adds to its list and the sums of its change 6, as one statement over lists of calls. The theorem is `third-demand` (proofs/Third.antt).
+-- The third demand of document 01, with the calls that document 02, change 5, adds to its list, the sums of its change 6 and the turns of its change 9, as one statement over lists of calls. The theorem is `third-demand` (proofs/Third.antt).
 use mathlib.Core.Path.{_≡_}
 use mathlib.Core.Option.{Option, none, some}
 use mathlib.Core.List.{List, [], _∷_}
@@ -10,7 +10,7 @@ use Rattle.term.specs.Accepted.{Accepted}
 use Rattle.machine.specs.Machine.{State, startState, afterFrom}
 use Rattle.machine.specs.Carried.{carriedBetween}
 use Rattle.calls.specs.Session.{Session, jam, logFull, tapeFull, refused, Outcome, Opening, Given}
-use Rattle.calls.specs.Stops.{back, moment, Room, room}
+use Rattle.calls.specs.Stops.{back, momentAfter, Room, room}
 use Rattle.calls.specs.Calls.{longest, sessionAt, logSlice, tapeSlice, openOf}
 use Rattle.calls.specs.Moves.{Move, outcomeOf, ownNumber, wayOf, course}
 
@@ -68,13 +68,13 @@ module _ (T : Table) (s₀ : State) (r : Room) where
   positionAfter p (own m u) = positionBy m p
   positionAfter p (other m g) = p
 
-  -- The session and every word of both slices are those of the plain machine after p steps.
+  -- The session, its turns too, and every word of both slices are those of the plain machine after p steps.
   pub record AsPlain (p : ℕ) (st : Standing) : Type 0 where
     pub state : State
     pub after-is : afterFrom T s₀ p ≡ some state
-    pub session-is : st .session ≡ sessionAt (moment state p)
-    pub log-is : st .log ≡ logSlice r (moment state p)
-    pub tape-is : st .tape ≡ tapeSlice r (moment state p)
+    pub session-is : st .session ≡ sessionAt (momentAfter T s₀ p state)
+    pub log-is : st .log ≡ logSlice r (momentAfter T s₀ p state)
+    pub tape-is : st .tape ≡ tapeSlice r (momentAfter T s₀ p state)
 
   -- A call of the list's own on its course from p: it answers the steps that it added to p or took off, is not refused, going back ends in no jam and no full slice, and says by its stop what
   -- its kind does. "The sum is that of the plain machine's steps" (document 02, change 6), which are those between p and the new p.

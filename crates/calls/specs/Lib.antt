@@ -13,4 +13,5 @@ pub mod Visited
 pub mod Moves
 pub mod Demand
 pub mod Trips
+pub mod Aside
 pub mod ByRows

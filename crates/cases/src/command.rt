@@ -83,7 +83,7 @@ pub(crate) fn row_of(line: &[u8]) -> usize {
     }
     listed(
         line,
-        b"text 0 + n 1 . down 4 . up 4 . read 0 + accept 0 + \
+        b"text 0 + n 1 . down 5 . up 5 . read 0 + accept 0 + \
           open 0 + forward 1 + back 1 + go-to 1 + walk 1 + walk-back 1 + \
           table 2 . set-table 2 . lend-table 1 . tower 1 . \
           log 2 . set-log 2 . lend-log 1 . tape 2 . set-tape 2 . lend-tape 1 . \

@@ -33,6 +33,7 @@ pub(crate) fn cleared(text: usize) -> Desk {
             position: 0,
             log_len: 0,
             tape_len: 0,
+            turns: 0,
         },
     }
 }
@@ -67,6 +68,7 @@ pub(crate) fn same_session(a: Session, b: Session) -> bool {
         & (a.position == b.position)
         & (a.log_len == b.log_len)
         & (a.tape_len == b.tape_len)
+        & (a.turns == b.turns)
 }
 
 // How many words a slice has: 0 is the table, 1 the log, 2 the tape.

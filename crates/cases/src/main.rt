@@ -48,6 +48,7 @@ fn stood(line: &[u8], dir: Dir) -> Session {
         position: number_at(line, 2),
         log_len: number_at(line, 3),
         tape_len: number_at(line, 4),
+        turns: number_at(line, 5),
     }
 }
 

@@ -127,13 +127,14 @@ pub(crate) fn dir_place(dir: Dir) -> usize {
     }
 }
 
-// Node, direction, position, and the lengths of log and tape.
+// Node, direction, position, the lengths of log and tape, and the turns.
 fn show_session(s: Session) {
     let dir = s.dir;
     show_word(s.node);
     show_number(nth_part(b" d | u ", b'|', dir_place(dir)), s.position);
     show_word(s.log_len);
     show_word(s.tape_len);
+    show_word(s.turns);
 }
 
 // An answer's node, a refusal's number, and 0 for the other stops.

@@ -45,7 +45,7 @@ sessions-injective = told-apart (λ s. sessionNumbers s) sessionIn session-told
 
 -- and so are a host's numbers that stand for one. (Their direction is taken apart, the rest stays.)
 abbrev pub toward : HostSession → ℕ → HostSession
-toward s d = record { node = s .node; direction = d; position = s .position; «log_len» = s .«log_len»; «tape_len» = s .«tape_len» }
+toward s d = record { node = s .node; direction = d; position = s .position; «log_len» = s .«log_len»; «tape_len» = s .«tape_len»; turns = s .turns }
 
 pub numbers-told : (s : HostSession) (se : Session) → sessionIn s ≡ some se → sessionNumbers se ≡ s
 numbers-told s se e = by-direction (s .direction) e

@@ -27,13 +27,14 @@ sessionNumbers s = record {
   position = s .position;
   «log_len» = s .logLength;
   «tape_len» = s .tapeLength;
+  turns = s .turns;
 }
 
 -- and the session that numbers stand for, if their direction is one.
 abbrev pub sessionIn : HostSession → Option Session
 sessionIn s =
     dirIn (s .direction) >>= λ d.
-    some (record { node = s .node; dir = d; position = s .position; logLength = s .«log_len»; tapeLength = s .«tape_len» })
+    some (record { node = s .node; dir = d; position = s .position; logLength = s .«log_len»; tapeLength = s .«tape_len»; turns = s .turns })
 
 -- the code of a refusal
 abbrev pub refusedCode : ℕ

@@ -14,7 +14,7 @@ pub struct HostWritten {
     pub refusal: u32,
 }
 
-// Direction: 0 is down, 1 is up.
+// Direction: 0 is down, 1 is up. Turns: how many of the steps from the start to the position changed direction.
 #[repr(C)]
 pub struct HostSession {
     pub node: u32,
@@ -22,6 +22,7 @@ pub struct HostSession {
     pub position: u32,
     pub log_len: u32,
     pub tape_len: u32,
+    pub turns: u32,
 }
 
 // What open answers. A refusal of 0 is none.

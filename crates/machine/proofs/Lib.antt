@@ -8,6 +8,7 @@ pub mod Reverse
 pub mod Lengths
 pub mod Carried
 pub mod Sums
+pub mod Turns
 pub mod Load
 pub mod Read
 pub mod Beyond

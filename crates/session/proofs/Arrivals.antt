@@ -75,6 +75,7 @@ arrives {w} {n} {se} {ls} {ts} {s} h j d L t e l m l-is m-is l-fits m-fits k k-i
             tape-length = m-is;
             log-lies = log-in .1;
             tape-lies = tape-in .1;
+            turns-fit = h .enters .holds .turns-fit;
           };
         };
       },

@@ -128,14 +128,27 @@ module _ (T : Table) (se : Session) (ls ts : List ℕ) where
   unfolding wellFormed
   tape-dirty h = sym (state-counted ∙ simp (h, and-false))
 
+  pub turns-over : se .position < se .turns → false ≡ not (isNone (stateIn T se ls ts))
+  unfolding wellFormed
+  turns-over h = sym (state-counted ∙ simp (lt-leb (se .turns) (se .position) h, and-false))
+
   pub log-miscounted : logCounts T se ls ≡ false → false ≡ not (isNone (stateIn T se ls ts))
   log-miscounted h = sym (state-counted ∙ simp (h, and-false))
 
   -- where they all hold, the tape's count decides
   pub tape-decides : 1 ≤ se .node → se .node ≤ T .nodes → se .logLength ≤ length ls → se .tapeLength ≤ length ts
-      → allZero (drop (se .logLength) ls) ≡ true → allZero (drop (se .tapeLength) ts) ≡ true → logCounts T se ls ≡ true
+      → allZero (drop (se .logLength) ls) ≡ true → allZero (drop (se .tapeLength) ts) ≡ true → se .turns ≤ se .position → logCounts T se ls ≡ true
       → tapeCounts T se ts ≡ not (isNone (stateIn T se ls ts))
   unfolding wellFormed
-  tape-decides a b c d e f g =
+  tape-decides a b c d e f g h =
       sym (state-counted
-      ∙ simp (le-leb 1 (se .node) a, le-leb (se .node) (T .nodes) b, le-leb (se .logLength) (length ls) c, le-leb (se .tapeLength) (length ts) d, e, f, g))
+      ∙ simp (
+        le-leb 1 (se .node) a,
+        le-leb (se .node) (T .nodes) b,
+        le-leb (se .logLength) (length ls) c,
+        le-leb (se .tapeLength) (length ts) d,
+        e,
+        f,
+        le-leb (se .turns) (se .position) g,
+        h,
+      ))

@@ -96,7 +96,7 @@ module _ (o : Came.Outcome) {w : List ℕ} {n : ℕ} {ls ts : List ℕ} {s : Sta
   comes-out run x f =
       let h = t .enters .holds in
       (λ i. record {
-        session = record { node = h .node-is i; dir = h .dir-is i; position = o .session .position; logLength = h .log-length i; tapeLength = h .tape-length i };
+        session = record { node = h .node-is i; dir = h .dir-is i; position = o .session .position; logLength = h .log-length i; tapeLength = h .tape-length i; turns = o .session .turns };
         steps = o .steps;
         stop = stopMeant x;
         peak = o .peak;

@@ -15,6 +15,7 @@ use Rattle.calls.specs.Calls.{Enters, wound}
 use Rattle.calls.specs.Visits.{Spot, spot, seek, isFound, seekBack, Sought, visited, unvisited}
 use Rattle.calls.specs.Demand.{Standing, givenTo}
 use Rattle.calls.proofs.Stops.{Fits}
+use Rattle.calls.proofs.Moments.{FewTurns}
 use Rattle.calls.proofs.Visits.{wind-none, sought, each-sought}
 use Rattle.calls.proofs.Retrace.{backed, again}
 use Rattle.calls.proofs.Nowhere.{nowhere-found}
@@ -51,21 +52,24 @@ module _ {w : List ℕ} {n : ℕ} {se : Declared.Session} {ls ts : List ℕ} {s 
   fits : Fits r s
   fits = enters-fits _ s (h .enters)
 
+  few : FewTurns here
+  few = h .enters .holds .turns-fit
+
   -- no spot at all
   search-nowhere : (way : Way) (d : Dir) (count : ℕ) → seek way T r (spot 0 d) count here ≡ wind way T r count here
-  search-nowhere way d count = nowhere-found T r facts here good fits way d count
+  search-nowhere way d count = nowhere-found T r facts here good fits few way d count
 
   -- back to a spot
   module _ (v : Spot) where
     abbrev searched : Run
     searched = seek back T r v (se .position) here
 
-    last-held : Good T (searched .last .state) × Fits r (searched .last .state)
+    last-held : Good T (searched .last .state) × Fits r (searched .last .state) × FewTurns (searched .last)
     last-held =
-        each-sought (λ x. Good T (x .last .state) × Fits r (x .last .state)) (λ k f. held-at k) (held-at (se .position)) (sought back T r v (se .position) here)
+        each-sought (λ x. Good T (x .last .state) × Fits r (x .last .state) × FewTurns (x .last)) (λ k f. held-at k) (held-at (se .position)) (sought back T r v (se .position) here)
       where
-        held-at : (c : ℕ) → Good T (wind back T r c here .last .state) × Fits r (wind back T r c here .last .state)
-        held-at c = let b = backed T r facts c here good fits in (b .good, b .fits)
+        held-at : (c : ℕ) → Good T (wind back T r c here .last .state) × Fits r (wind back T r c here .last .state) × FewTurns (wind back T r c here .last)
+        held-at c = let b = backed T r facts c here good fits few in (b .good, b .fits, b .few)
 
     -- without a visit, forward by its steps leads to where it began
     comes-again : isFound (searched .stop) ≡ false → se .position ≤ greatest → wind forward T r (searched .steps) (searched .last) .last ≡ here
@@ -74,7 +78,7 @@ module _ {w : List ℕ} {n : ℕ} {se : Declared.Session} {ls ts : List ℕ} {s 
         by-search : Sought back T r v (se .position) here (wind back T r (se .position) here) searched → wind forward T r (searched .steps) (searched .last) .last ≡ here
         by-search (visited k f e) = absurd (true≢false (sym (ap (λ x. isFound (x .stop)) e) ∙ missed))
         by-search (unvisited away e) =
-            subst (λ x. wind forward T r (x .steps) (x .last) .last ≡ here) (sym e) (again T r facts (se .position) here good fits near .last-is)
+            subst (λ x. wind forward T r (x .steps) (x .last) .last ≡ here) (sym e) (again T r facts (se .position) here good fits few near .last-is)
 
     -- what the search leaves
     module _ (o : Came.Outcome) (ls₁ ts₁ : List ℕ) (came : outcomeMeant o ls₁ ts₁ ≡ wound r searched) where
@@ -90,7 +94,7 @@ module _ {w : List ℕ} {n : ℕ} {se : Declared.Session} {ls ts : List ℕ} {s 
       token-left : TokenAt w n (o .session) ls₁ ts₁ (searched .last .state)
       token-left = record {
         enters = subst (λ x. Enters (givenTo w n x) (searched .last .state)) as-left
-            (laid-enters r (searched .last) (last-held .1) w n (h .enters .accepted-table) (last-held .0) (h .enters .short-log) (h .enters .short-tape));
+            (laid-enters r (searched .last) (last-held .1) w n (h .enters .accepted-table) (last-held .0) (last-held .2) (h .enters .short-log) (h .enters .short-tape));
       }
 
       pub search-ready : Ready w n (o .session) ls₁ ts₁

@@ -58,7 +58,7 @@ stop-once x y h = sym (stop-back x) ∙ ap stopBack h ∙ stop-back y
 pub session-once : (s u : Declared.Session) → sessionMeant s ≡ sessionMeant u → s ≡ u
 session-once s u e =
     let d = dir-once (s .dir) (u .dir) (ap (λ x. x .dir) e) in
-    λ i. record { node = e i .node; dir = d i; position = e i .position; «log_len» = e i .logLength; «tape_len» = e i .tapeLength }
+    λ i. record { node = e i .node; dir = d i; position = e i .position; «log_len» = e i .logLength; «tape_len» = e i .tapeLength; turns = e i .turns }
 
 pub opened-once : (o u : Opening) (ls ls′ ts ts′ : List ℕ) → openingMeant o ls ts ≡ openingMeant u ls′ ts′ → (o ≡ u) × (ls ≡ ls′) × (ts ≡ ts′)
 opened-once o u ls ls′ ts ts′ e =

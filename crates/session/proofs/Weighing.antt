@@ -1,6 +1,6 @@
 -- Keeping count of the bullets: how many a slice has, how a rule changes them, and that session and count together tell what the state weighs.
 use mathlib.Core.Path.{_≡_, refl, sym, ap, ap₂, _∙_, subst}
-use mathlib.Core.Option.{some, Option·some-injective}
+use mathlib.Core.Option.{some}
 use mathlib.Core.List.{List, _∷_}
 use Prim.Native.Nat.{ℕ, suc, _+_, _-_, _*_, _≤_, _<_}
 use native.Mathlib.Numerals.{add-one}
@@ -22,7 +22,7 @@ use Rattle.session.specs.declared.Session as Declared
 use Rattle.session.specs.declared.choice.Rule.{Rule}
 use Rattle.session.specs.declared.choice.Rule.the-variants.{One, Two, Three, Four, Five, Six, Seven, Eight}
 use Rattle.session.proofs.Words.{next-word}
-use Rattle.session.proofs.Facing.{same-tape, next-facing}
+use Rattle.session.proofs.Facing.{same-tape, next-state}
 use Rattle.session.proofs.Passes.{rule-steps}
 
 -- ---- word by word from the low end of a slice
@@ -70,7 +70,7 @@ module _ (way : Way) (T : Table) (s : State) (rule : Rule) (f : RuleIs T (facing
   pub pass-counted : (se : Session) (m : Moment) → nextBy way T (momentOf se s) ≡ some m → onTape (m .state) ≡ bulletsAfter rule (onTape s)
   pass-counted se m e =
       let (u, steps) = rule-steps T (facing way s) rule f in
-      ap (λ x. onTape (x .state)) (Option·some-injective m _ (sym e ∙ next-facing way T s u se steps))
+      ap onTape (next-state way T s u se m steps e)
       ∙ bullets-facing way u
       ∙ rule-counted T (facing way s) rule f
       ∙ ap (bulletsAfter rule) (bullets-facing way s)

@@ -1,15 +1,15 @@
 -- What the functions of a winding loop promise: what ends a walk before a step, one pass of the loop, and the running outcome.
 use mathlib.Core.Path.{_≡_}
-use mathlib.Core.Bool.{Bool, false}
+use mathlib.Core.Bool.{Bool, false, _&&_, cond}
 use mathlib.Core.Option.{none, some}
 use mathlib.Core.List.{List}
 use Prim.Native.Nat.{ℕ, suc, _+_, _-_, _≤_, _<_, max}
 use lib.ListN.{length}
-use lib.Dec.{eqb}
+use lib.Dec.{leb, ltb, eqb}
 use Rattle.term.specs.Table.{Table, tableIn}
-use Rattle.machine.specs.Machine.{State, turned, turn}
+use Rattle.machine.specs.Machine.{Dir, down, up, State, step, turned, turn}
 use Rattle.calls.specs.Session
-use Rattle.calls.specs.Stops.{Way, forward, back, Moment, momentOf, room, greatest, isAnswer, nextBy, haltBefore, stopBefore}
+use Rattle.calls.specs.Stops.{Way, forward, back, Moment, moment, momentOf, room, greatest, isAnswer, nextBy, haltBefore, stopBefore}
 use Rattle.calls.specs.Winding.{carriedBy, wind}
 use Rattle.calls.specs.Calls.{wound}
 use Rattle.session.specs.Types.{wayMeant, sessionMeant, stopMeant, outcomeMeant}
@@ -18,8 +18,10 @@ use Rattle.session.specs.Rules.{RuleIs}
 use Rattle.session.specs.Weight.{weightOf}
 use Rattle.session.specs.declared.Session as Declared
 use Rattle.session.specs.declared.Outcome as Came
-use Rattle.session.specs.declared.Stop.the-variants.{Spent, Answer, Start}
+use Rattle.session.specs.declared.Stop.the-variants.{Spent, Answer, Jam, Start}
 use Rattle.session.specs.declared.Stop as DeclaredStop
+use Rattle.session.specs.declared.choice.Rule.{Rule}
+use Rattle.session.specs.declared.choice.Rule.the-variants.{One, Two, Three, Four, Five, Six, Seven, Eight}
 use Rattle.session.specs.declared.winding.Way as DeclaredWay
 use Rattle.session.specs.declared.winding.Before.{Before}
 use Rattle.session.specs.declared.winding.Before.the-variants.{Ends, Makes}
@@ -34,6 +36,7 @@ turnedSession se = record {
   position = se .position;
   logLength = se .logLength;
   tapeLength = se .tapeLength;
+  turns = se .turns;
 }
 
 -- What a step is made from: going back, the session and the state turned.
@@ -45,26 +48,28 @@ abbrev pub facing : Way → State → State
 facing forward s = s
 facing back s = turn s
 
--- there is a position after the step
+-- there is a position after the step, which is this one
 abbrev pub HasNext : Way → ℕ → Type 0
 HasNext forward p = p < greatest
 HasNext back p = 1 ≤ p
 
--- the session after a step that arrived as this one, which is still at the position before it
-abbrev pub sessionAfter : Way → Session.Session → Session.Session
-sessionAfter forward se = record {
+abbrev pub positionAfter : Way → ℕ → ℕ
+positionAfter forward p = p + 1
+positionAfter back p = p - 1
+
+abbrev pub facingDir : Way → Dir → Dir
+facingDir forward d = d
+facingDir back d = turned d
+
+-- the session after a step that arrived as this one, which is still at the position before it, with k turns
+abbrev pub sessionAfter : Way → ℕ → Session.Session → Session.Session
+sessionAfter way k se = record {
   node = se .node;
-  dir = se .dir;
-  position = se .position + 1;
+  dir = facingDir way (se .dir);
+  position = positionAfter way (se .position);
   logLength = se .logLength;
   tapeLength = se .tapeLength;
-}
-sessionAfter back se = record {
-  node = se .node;
-  dir = turned (se .dir);
-  position = se .position - 1;
-  logLength = se .logLength;
-  tapeLength = se .tapeLength;
+  turns = k;
 }
 
 -- what the test of the answer promises
@@ -89,13 +94,36 @@ abbrev pub isFar : Way → ℕ → Bool
 isFar forward p = eqb p greatest
 isFar back p = false
 
--- Before a step, the count not used up: the stop, if it is not a full slice; or the rule that fits what the step is made from.
+-- the direction in which a rule leads
+abbrev pub ruleDir : Rule → Dir
+ruleDir (One j) = down
+ruleDir (Two j) = down
+ruleDir (Three j) = up
+ruleDir (Four j) = up
+ruleDir (Five j) = up
+ruleDir (Six j) = down
+ruleDir (Seven j) = up
+ruleDir (Eight j) = down
+
+-- Before a step by a rule, which has k turns, and goes forward from no greatest position or back from none of 0: the turns after it; going back, a jam where they would be "below 0, or above the new position".
+abbrev pub turnsLeft : Way → Declared.Session → Rule → ℕ → Before
+turnsLeft forward se r k = Makes r (se .turns + k)
+turnsLeft back se r k = cond (leb k (se .turns) && ltb (se .turns - k) (se .position)) (Makes r (se .turns - k)) (Ends Jam)
+
+-- what is added fits a word
+abbrev pub CanTurn : Way → Declared.Session → ℕ → Type 0
+CanTurn forward se k = se .turns + k ≤ greatest
+CanTurn back se k = Unit
+
+-- Before a step, the count not used up: the stop, if it is not a full slice; or the rule that fits what the step is made from, and the turns of the moment that it leads to.
 abbrev pub BeforeIs : List ℕ → ℕ → Declared.Session → Way → State → Before → Type 0
 BeforeIs w n se way s (Ends x) = (c : ℕ) → haltBefore way (tableIn w n) (suc c) (momentOf (sessionMeant se) s) ≡ some (stopMeant x)
-BeforeIs w n se way s (Makes r) =
+BeforeIs w n se way s (Makes r k) =
     ((c : ℕ) → haltBefore way (tableIn w n) (suc c) (momentOf (sessionMeant se) s) ≡ none)
     × HasNext way (se .position)
     × RuleIs (tableIn w n) (facing way s) r
+    × ((u : State) → step (tableIn w n) (facing way s) ≡ some u
+    → nextBy way (tableIn w n) (momentOf (sessionMeant se) s) ≡ some (moment (facing way u) (positionAfter way (se .position)) k))
 
 abbrev pub TellsBefore : List ℕ → ℕ → Declared.Session → List ℕ → Way → Before → Type 0
 TellsBefore w n se ts way b = (ls : List ℕ) (s : State) → TokenAt w n se ls ts s → BeforeIs w n se way s b

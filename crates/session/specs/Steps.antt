@@ -24,14 +24,14 @@ pub record Ready (w : List ℕ) (n : ℕ) (se : Declared.Session) (ls ts : List 
   pub state : State
   pub token : TokenAt w n se ls ts state
 
--- where a step leads, as a session at some position
-abbrev pub arrivedAt : ℕ → Arrived.Arrival → Declared.Session
-arrivedAt p a = record { node = a .node; dir = a .dir; position = p; «log_len» = a .«log_len»; «tape_len» = a .«tape_len» }
+-- where a step leads, as a session at some position, with some turns
+abbrev pub arrivedAt : ℕ → ℕ → Arrived.Arrival → Declared.Session
+arrivedAt p k a = record { node = a .node; dir = a .dir; position = p; «log_len» = a .«log_len»; «tape_len» = a .«tape_len»; turns = k }
 
 -- One step of the machine from state s, tried on the slices: made, with the words that it carries, or left undone with every word as it was.
 abbrev pub StepIs : List ℕ → ℕ → Declared.Session → List ℕ → List ℕ → State → Stepped → List ℕ → List ℕ → Type 0
 StepIs w n se ls ts s (Made a) ls′ ts′ =
-    (u : State) × (step (tableIn w n) s ≡ some u) × TokenAt w n (arrivedAt (se .position) a) ls′ ts′ u × (a .carried ≡ carried (tableIn w n) s)
+    (u : State) × (step (tableIn w n) s ≡ some u) × TokenAt w n (arrivedAt (se .position) (se .turns) a) ls′ ts′ u × (a .carried ≡ carried (tableIn w n) s)
 StepIs w n se ls ts s LogFull ls′ ts′ = (u : State) × (step (tableIn w n) s ≡ some u) × (length ls < logSize u) × (ls′ ≡ ls) × (ts′ ≡ ts)
 StepIs w n se ls ts s TapeFull ls′ ts′ =
     (u : State) × (step (tableIn w n) s ≡ some u) × (logSize u ≤ length ls) × (length ts < tapeSize u) × (ls′ ≡ ls) × (ts′ ≡ ts)

@@ -39,6 +39,7 @@ sessionMeant se = record {
   position = se .position;
   logLength = se .«log_len»;
   tapeLength = se .«tape_len»;
+  turns = se .turns;
 }
 
 abbrev pub stopMeant : Stop → Session.Stop

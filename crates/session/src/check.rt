@@ -96,7 +96,7 @@ fn is_tape(table: &[u16], n: u32, words: &[u32]) -> bool
     }
 }
 
-// Whether the words below both tops are the log and the tape of a state at the session's node: the walk over the entries. It sees no word above a top, so its answer is
+// Whether the words below both tops are the log and the tape of a state at the session's node, and its turns are not over its position: the walk over the entries. It sees no word above a top, so its answer is
 // number 9's only after a look there: it "demands that every word above both tops is 0" (document 02, change 4).
 fn walk_entries(table: &[u16], n: u32, session: Session, log: &[u32], tape: &[u32]) -> bool
     requires { ⌜ (session .«log_len» ≤ length (now log)) × (session .«tape_len» ≤ length (now tape)) ⌝ }
@@ -111,6 +111,9 @@ fn walk_entries(table: &[u16], n: u32, session: Session, log: &[u32], tape: &[u3
         return false;
     }
     if n < node {
+        return false;
+    }
+    if session.position < session.turns {
         return false;
     }
     let level = term::level(table, n, node);

@@ -31,13 +31,14 @@ pub enum Dir {
     Up,
 }
 
-// Where the token stands: its node and direction, the steps from the start, and the lengths in words of log and tape.
+// Where the token stands: its node and direction, the steps from the start, the lengths in words of log and tape, and how many of the steps changed direction (document 02, change 9).
 pub struct Session {
     pub node: u32,
     pub dir: Dir,
     pub position: u32,
     pub log_len: u32,
     pub tape_len: u32,
+    pub turns: u32,
 }
 
 // Why a call ended. A refusal's number comes instead of a stop. Found and None are said by the calls to a node alone.
@@ -101,6 +102,7 @@ pub fn open(table: &[u16], n: u32, log: &mut [u32], tape: &mut [u32]) -> Opening
                 position: 0,
                 log_len: 0,
                 tape_len: 0,
+                turns: 0,
             },
             refusal: refusal,
         };
@@ -114,6 +116,7 @@ pub fn open(table: &[u16], n: u32, log: &mut [u32], tape: &mut [u32]) -> Opening
             position: 0,
             log_len: 0,
             tape_len: 0,
+            turns: 0,
         },
         refusal: 0,
     }

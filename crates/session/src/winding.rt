@@ -3,11 +3,12 @@ ghost use mathlib.Core.Path.{_≡_};
 ghost use Prim.Native.Nat.{_+_, _*_, max, _≤_, _<_};
 ghost use lib.ListN.{length};
 ghost use Rattle.machine.specs.Machine.{turned as otherDir};
+ghost use Rattle.machine.specs.Turns.{turnBetween};
 ghost use Rattle.calls.specs.Calls.{longest};
 ghost use Rattle.calls.specs.Visits.{spot};
 ghost use Rattle.session.specs.Types.{dirMeant, sessionMeant, wayMeant};
 ghost use Rattle.session.specs.Steps.{Ready, arrivedAt};
-ghost use Rattle.session.specs.Passes.{turnedSession, facingSession, HasNext, sessionAfter, TellsAnswer, TellsEnd, endStop, isFar, TellsBefore, Passes, begunAt, lengthenedTo, haltedBy, Winds};
+ghost use Rattle.session.specs.Passes.{turnedSession, facingSession, HasNext, sessionAfter, TellsAnswer, TellsEnd, endStop, isFar, ruleDir, CanTurn, turnsLeft, TellsBefore, Passes, begunAt, lengthenedTo, haltedBy, Winds};
 ghost use Rattle.session.specs.Visits.{Seeks};
 ghost use Rattle.session.specs.Weight.{Weighable};
 use crate::Dir;
@@ -31,10 +32,10 @@ pub(crate) enum Way {
     Back,
 }
 
-// What comes before a step: its stop, or the rule that the step is made by.
+// What comes before a step: its stop, or the rule that the step is made by and the turns after it.
 pub(crate) enum Before {
     Ends(Stop),
-    Makes(Rule),
+    Makes(Rule, u32),
 }
 
 // One pass of the loop: on with the session after a step, the rule that it was made by and how many words it carried; or halted.
@@ -64,6 +65,7 @@ fn turned_session(session: Session) -> Session
         position: session.position,
         log_len: session.log_len,
         tape_len: session.tape_len,
+        turns: session.turns,
     }
 }
 
@@ -78,9 +80,9 @@ fn facing_session(session: Session, way: Way) -> Session
 }
 
 // The session where a step leads.
-fn session_at(to: Arrival, dir: Dir, position: u32) -> Session
+fn session_at(to: Arrival, dir: Dir, position: u32, turns: u32) -> Session
     ensures { λ r. ⌜ r
-        ≡ record { node = to .node; dir = dir; position = position; «log_len» = to .«log_len»; «tape_len» = to .«tape_len» } ⌝ }
+        ≡ record { node = to .node; dir = dir; position = position; «log_len» = to .«log_len»; «tape_len» = to .«tape_len»; turns = turns } ⌝ }
 {
     Session {
         node: to.node,
@@ -88,20 +90,21 @@ fn session_at(to: Arrival, dir: Dir, position: u32) -> Session
         position: position,
         log_len: to.log_len,
         tape_len: to.tape_len,
+        turns: turns,
     }
 }
 
-// The session after a step, forward or back.
-fn after_step(session: Session, to: Arrival, way: Way) -> Session
+// The session after a step, forward or back, with so many turns.
+fn after_step(session: Session, to: Arrival, way: Way, turns: u32) -> Session
     requires { ⌜ HasNext (wayMeant way) (session .position) ⌝ }
-    ensures { λ r. ⌜ sessionMeant r ≡ sessionAfter (wayMeant way) (sessionMeant (arrivedAt (session .position) to)) ⌝ }
+    ensures { λ r. ⌜ sessionMeant r ≡ sessionAfter (wayMeant way) turns (sessionMeant (arrivedAt (session .position) (session .turns) to)) ⌝ }
 {
     let dir = to.dir;
     match way {
-        Way::Forward => session_at(to, dir, session.position + 1),
+        Way::Forward => session_at(to, dir, session.position + 1, turns),
         Way::Back => {
             let again = turned_dir(dir);
-            session_at(to, again, session.position - 1)
+            session_at(to, again, session.position - 1, turns)
         }
     }
 }
@@ -153,10 +156,64 @@ fn is_far(session: Session, way: Way) -> bool
     }
 }
 
+// The direction in which a rule leads.
+fn rule_dir(rule: Rule) -> Dir
+    ensures { λ r. ⌜ dirMeant r ≡ ruleDir rule ⌝ }
+{
+    match rule {
+        Rule::One(_) => Dir::Down,
+        Rule::Two(_) => Dir::Down,
+        Rule::Three(_) => Dir::Up,
+        Rule::Four(_) => Dir::Up,
+        Rule::Five(_) => Dir::Up,
+        Rule::Six(_) => Dir::Down,
+        Rule::Seven(_) => Dir::Up,
+        Rule::Eight(_) => Dir::Down,
+    }
+}
+
+// How many turns a step from one direction to another has.
+fn turn_between(from: Dir, to: Dir) -> u32
+    ensures { λ r. ⌜ r ≡ turnBetween (dirMeant from) (dirMeant to) ⌝ }
+{
+    match from {
+        Dir::Down => match to {
+            Dir::Down => 0,
+            Dir::Up => 1,
+        },
+        Dir::Up => match to {
+            Dir::Down => 1,
+            Dir::Up => 0,
+        },
+    }
+}
+
+// What comes before a step by a rule that fits, which has so many turns: forward they are added, and back they are taken off, where that does not leave turns below 0, or above the
+// new position.
+fn with_turns(session: Session, way: Way, rule: Rule, turn: u32) -> Before
+    requires { ⌜ CanTurn (wayMeant way) session turn ⌝ }
+    ensures { λ r. ⌜ r ≡ turnsLeft (wayMeant way) session rule turn ⌝ }
+{
+    match way {
+        Way::Forward => Before::Makes(rule, session.turns + turn),
+        Way::Back => {
+            if session.turns < turn {
+                return Before::Ends(Stop::Jam);
+            }
+            let left = session.turns - turn;
+            if left < session.position {
+                Before::Makes(rule, left)
+            } else {
+                Before::Ends(Stop::Jam)
+            }
+        }
+    }
+}
+
 // What ends a walk before a step, the count not used up, but for a full slice, which the step finds. The tests are in the order of document 01. The rule is chosen in one place
 // for both ways, so that the compiler puts the choice into the loop.
 fn before_step(table: &[u16], n: u32, session: Session, tape: &[u32], way: Way) -> Before
-    requires { ⌜ session .«tape_len» ≤ length (now tape) ⌝ }
+    requires { ⌜ (session .«tape_len» ≤ length (now tape)) × (session .turns ≤ session .position) ⌝ }
     ensures { λ r. ⌜ TellsBefore (now (table .entry)) n session (now (tape .entry)) (wayMeant way) r ⌝ }
 {
     if is_end(table, n, session, way) {
@@ -171,7 +228,9 @@ fn before_step(table: &[u16], n: u32, session: Session, tape: &[u32], way: Way) 
             if is_far(session, way) {
                 Before::Ends(Stop::Far)
             } else {
-                Before::Makes(rule)
+                let from = about.dir;
+                let turn = turn_between(from, rule_dir(rule));
+                with_turns(session, way, rule, turn)
             }
         }
     }
@@ -192,12 +251,12 @@ fn one_pass(
     let told = before_step(table, n, session, &tape[..], way);
     match told {
         Before::Ends(stop) => Pass::Halted(stop),
-        Before::Makes(rule) => {
+        Before::Makes(rule, turns) => {
             let about = facing_session(session, way);
             let stepped = step(table, n, about, log, tape, rule);
             match stepped {
                 Stepped::Made(to) => {
-                    let next = after_step(session, to, way);
+                    let next = after_step(session, to, way, turns);
                     Pass::On(next, rule, to.carried)
                 }
                 Stepped::LogFull => Pass::Halted(Stop::LogFull),

@@ -33,6 +33,7 @@ madeWith s = record {
   position = s .position;
   logLength = s .«log_len»;
   tapeLength = s .«tape_len»;
+  turns = s .turns;
 }
 
 -- what the host keeps as its session: the numbers given where the call is refused, and else those after it

@@ -31,6 +31,7 @@ pub(crate) fn session_numbers(s: Session) -> HostSession
         position: s.position,
         log_len: s.log_len,
         tape_len: s.tape_len,
+        turns: s.turns,
     }
 }
 
@@ -46,6 +47,7 @@ pub(crate) fn made_with(s: HostSession) -> Session
         position: s.position,
         log_len: s.log_len,
         tape_len: s.tape_len,
+        turns: s.turns,
     }
 }
 

@@ -41,7 +41,7 @@ returns-2 c =
     let u = c .before .before .before .before .before .before .before .before in
     let n = u .before .lent-number in
     let e = open-begun (a .table .now) (a .n) (a .log .now) (a .tape .now) (lent-none (a .table .now) (a .n) (a .log .now) (a .tape .now) (sym (u .if1 .left) ∙ n .ensures)) in
-    ap₂ (λ ls ts. openingMeant (record { session = record { node = 1; dir = Down; position = 0; «log_len» = 0; «tape_len» = 0 }; refusal = 0 }) ls ts)
+    ap₂ (λ ls ts. openingMeant (record { session = record { node = 1; dir = Down; position = 0; «log_len» = 0; «tape_len» = 0; turns = 0 }; refusal = 0 }) ls ts)
     (c .before .before .before .before .before .before .clear .ensures)
     (c .before .before .clear2 .ensures)
     ∙ sym e
