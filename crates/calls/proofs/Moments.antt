@@ -1,8 +1,8 @@
 -- One step with its position and turns, either way: what it is made of, that it leaves no more turns than the position, and that a step back undoes a step forward, and is made again.
 use mathlib.Core.Path.{_≡_, refl, sym, ap, ap₂, _∙_, subst}
 use mathlib.Core.Logic.{_↔_}
-use mathlib.Core.Bool.{Bool, true, false, cond, and-eq-true-iff}
-use mathlib.Core.Option.{Option, none, some, Option·some-injective, Option·none-ne-some}
+use mathlib.Core.Bool.{Bool, true, false, cond, and-eq-true-iff, false≢true}
+use mathlib.Core.Option.{Option, none, some, Option·some-injective, Option·none-ne-some, Option·some-ne-none}
 use Prim.Native.Nat.{suc, _+_, _-_, _≤_}
 use native.Mathlib.Omega.{arith}
 use borrow.Author.Tests.{leb-true, le-leb}
@@ -27,6 +27,18 @@ leaves-exactly m u = (
       record { not-below = leb-true (turnTo m u) (m .turns) (tests .0); not-above = leb-true (backward m u .turns) (backward m u .position) (tests .1) },
   λ h. rw (le-leb (turnTo m u) (m .turns) (h .not-below), le-leb (backward m u .turns) (backward m u .position) (h .not-above)),
 )
+
+-- There is no step back, which is a jam, exactly if no rule fits, or the step would leave turns below 0 or above the new position.
+pub back-jams : (T : Table) (m : Moment) → (nextBy back T m ≡ none) ↔ ((u : State) → stepBack T (m .state) ≡ some u → LeavesTurns m u → ⊥)
+back-jams T m = by-step (stepBack T (m .state))
+  where
+    by-test : (s : State) (b : Bool) → leavesTurns m s ≡ b → (cond b (some (backward m s)) none ≡ none) ↔ ((u : State) → some s ≡ some u → LeavesTurns m u → ⊥)
+    by-test s true h = (λ e. absurd (Option·some-ne-none (backward m s) e), λ away. absurd (away s refl (leaves-exactly m s .0 h)))
+    by-test s false h = (λ _ u e left. false≢true (sym h ∙ leaves-exactly m s .1 (subst (LeavesTurns m) (sym (Option·some-injective s u e)) left)), λ _. refl)
+
+    by-step : (o : Option State) → ((o >>= λ s. cond (leavesTurns m s) (some (backward m s)) none) ≡ none) ↔ ((u : State) → o ≡ some u → LeavesTurns m u → ⊥)
+    by-step none = (λ _ u e left. Option·none-ne-some u e, λ _. refl)
+    by-step (some s) = by-test s (leavesTurns m s) refl
 
 module _ (T : Table) (m u : Moment) where
   -- a next moment, by the step to it
