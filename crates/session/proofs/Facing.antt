@@ -16,6 +16,7 @@ use Rattle.calls.specs.Session.{Session}
 use Rattle.calls.specs.Stops.{Way, forward, back, Moment, moment, momentOf, backward, leavesTurns, logSize, tapeSize, nextBy}
 use Rattle.calls.specs.Winding.{carriedBy}
 use Rattle.calls.specs.Held.{Holds}
+use Rattle.calls.specs.Visits.{sameDir}
 use Rattle.calls.proofs.Moments.{next-forward, next-back}
 use Rattle.session.specs.Types.{sessionMeant}
 use Rattle.session.specs.Steps.{TokenAt}
@@ -118,7 +119,14 @@ turn-facing down up = refl
 turn-facing up down = refl
 turn-facing up up = refl
 
--- and carries what the step from the turned state does
+-- A step has a turn where its directions are not the same.
+pub turn-told : (d e : Dir) → cond (sameDir d e) 0 1 ≡ turnBetween d e
+turn-told down down = refl
+turn-told down up = refl
+turn-told up down = refl
+turn-told up up = refl
+
+-- A step carries what the step from the turned state does.
 pub carried-facing : (way : Way) (T : Table) (s : State) → carried T (facing way s) ≡ carriedBy way T s
 carried-facing forward T s = refl
 carried-facing back T s = refl

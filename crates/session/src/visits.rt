@@ -15,7 +15,7 @@ use crate::winding::halted;
 use crate::winding::seek;
 use crate::winding::wind;
 
-fn same_dir(a: Dir, b: Dir) -> bool
+pub(crate) fn same_dir(a: Dir, b: Dir) -> bool
     ensures { λ r. ⌜ r ≡ sameDir (dirMeant a) (dirMeant b) ⌝ }
 {
     match a {

@@ -21,6 +21,7 @@ use crate::choice::chosen;
 use crate::rules::Arrival;
 use crate::rules::Stepped;
 use crate::rules::step;
+use crate::visits::same_dir;
 use crate::visits::stands_on;
 use crate::weight::bullets_after;
 use crate::weight::bullets_in;
@@ -176,16 +177,7 @@ fn rule_dir(rule: Rule) -> Dir
 fn turn_between(from: Dir, to: Dir) -> u32
     ensures { λ r. ⌜ r ≡ turnBetween (dirMeant from) (dirMeant to) ⌝ }
 {
-    match from {
-        Dir::Down => match to {
-            Dir::Down => 0,
-            Dir::Up => 1,
-        },
-        Dir::Up => match to {
-            Dir::Down => 1,
-            Dir::Up => 0,
-        },
-    }
+    if same_dir(from, to) { 0 } else { 1 }
 }
 
 // What comes before a step by a rule that fits, which has so many turns: forward they are added, and back they are taken off, where that does not leave turns below 0, or above the
