@@ -1,7 +1,7 @@
 -- Back by any count, and forward by the steps made: spent, and the session and every word of both slices are again those given, and as many words were carried. So a call back that says none gives back what it got.
 use mathlib.Core.Path.{_≡_, refl, sym, ap, _∙_}
 use mathlib.Core.Bool.{Bool, true, false}
-use mathlib.Core.Option.{none}
+use mathlib.Core.Option.{Option, none, some, Option·some-ne-none}
 use Prim.Native.Nat.{ℕ, _≤_}
 use Rattle.term.specs.Table.{Table, tableIn}
 use Rattle.term.specs.Facts.{Facts}
@@ -19,7 +19,8 @@ use Rattle.calls.proofs.Stops.{Fits}
 use Rattle.calls.proofs.Visits.{each-sought, sought-back, found-not-none, none-unrefused}
 use Rattle.calls.proofs.Retrace.{Backed, backed, Again, again}
 use Rattle.calls.proofs.Entering.{entered, enters-unrefused, enters-fits, laidDown, held-laid-down}
-use Rattle.calls.proofs.Answers.{own-refused, moved, laid-moved}
+use Rattle.calls.proofs.Answers.{move-refused, own-refused, moved, laid-moved}
+use Rattle.calls.proofs.RoundTrip.{refused-twice}
 
 module _ (g : Given) (s : State) (h : Enters g s) where
   abbrev T : Table
@@ -76,10 +77,14 @@ module _ (g : Given) (s : State) (h : Enters g s) where
       record { session-is = ap (λ x. x .session) there; log-is = ap (λ x. x .log) there; tape-is = ap (λ x. x .tape) there; no-steps = refl; own-weight = refl; nothing-carried = refl })
       (sought-back T r v here))
 
--- Of every session that is not refused. (A position is 0 to 4,294,967,295.)
-pub back-trip : (g : Given) (c : ℕ) → callNumber g ≡ none → g .session .position ≤ greatest
-    → Restored g (backOf g c) (forwardBy g (backOf g c)) × (forwardBy g (backOf g c) .stop ≡ spent)
-back-trip g c e near = let (s, h) = entered g e in wound-back g s h c near
+-- Of every session, refused or not. (A position is 0 to 4,294,967,295.)
+pub back-trip : (g : Given) (c : ℕ) → g .session .position ≤ greatest
+    → Restored g (backOf g c) (forwardBy g (backOf g c)) × (callNumber g ≡ none → forwardBy g (backOf g c) .stop ≡ spent)
+back-trip g c near = by-number (callNumber g) refl
+  where
+    by-number : (o : Option ℕ) → callNumber g ≡ o → Restored g (backOf g c) (forwardBy g (backOf g c)) × (callNumber g ≡ none → forwardBy g (backOf g c) .stop ≡ spent)
+    by-number (some k) e = (rw (move-refused (by back c) g k e, move-refused (by forward 0) g k e) (refused-twice g k), λ free. absurd (Option·some-ne-none k (sym e ∙ free)))
+    by-number none e = let (s, h) = entered g e in let (restored, is-spent) = wound-back g s h c near in (restored, λ _. is-spent)
 
 pub none-gives-back : (g : Given) (s : State) → Enters g s → (v : Spot) → backToOf g v .stop ≡ Stop.none → Unmoved g s (backToOf g v)
 none-gives-back g s h v e = by-node (offTerm (g .n) (v .node)) refl

@@ -12,7 +12,7 @@ use Rattle.machine.specs.Carried.{carriedOver}
 use Rattle.calls.specs.Session.{Given}
 use Rattle.calls.specs.Stops.{forward, back, Moment, momentOf, Room, room}
 use Rattle.calls.specs.Winding.{Run, wind}
-use Rattle.calls.specs.Calls.{callNumber, Enters, wound, forwardOf}
+use Rattle.calls.specs.Calls.{callNumber, Enters, refusedOutcome, wound, forwardOf}
 use Rattle.calls.specs.Moves.{by}
 use Rattle.calls.specs.Demand.{Standing}
 use Rattle.calls.specs.Trips.{backBy, Restored}
@@ -21,8 +21,9 @@ use Rattle.calls.proofs.Runs.{Trail, begun, trail-none, trail-few, trai
 use Rattle.calls.proofs.Entering.{entered, laidDown, held-laid-down, enters-fits}
 use Rattle.calls.proofs.Answers.{move-refused, moved, laid-moved}
 
-refused-trip : (g : Given) (c k : ℕ) → callNumber g ≡ some k → Restored g (forwardOf g c) (backBy g (forwardOf g c))
-refused-trip g c k e = rw (move-refused (by forward c) g k e, move-refused (by back 0) g k e) (record { session-is = refl; log-is = refl; tape-is = refl; steps-are = refl; carried-is = refl })
+-- A refused call makes no step, and the call the other way is refused as it was.
+pub refused-twice : (g : Given) (k : ℕ) → Restored g (refusedOutcome k g) (refusedOutcome k g)
+refused-twice g k = record { session-is = refl; log-is = refl; tape-is = refl; steps-are = refl; carried-is = refl }
 
 module _ (g : Given) (c : ℕ) (s : State) (h : Enters g s) where
   abbrev T′ : Table
@@ -77,10 +78,10 @@ module _ (g : Given) (c : ℕ) (s : State) (h : Enters g s) where
   wound-trip = rw (moved (by forward c) g s h refl, back-home)
       (record { session-is = ap (λ x. x .session) home-is; log-is = ap (λ x. x .log) home-is; tape-is = ap (λ x. x .tape) home-is; steps-are = off .steps-are ∙ omega arith; carried-is = same-sum })
 
--- A refused call makes no step, and the call back is refused as it was.
+-- Of every session, refused or not.
 pub round-trip : (g : Given) (c : ℕ) → Restored g (forwardOf g c) (backBy g (forwardOf g c))
 round-trip g c = by-number (callNumber g) refl
   where
     by-number : (o : Option ℕ) → callNumber g ≡ o → Restored g (forwardOf g c) (backBy g (forwardOf g c))
-    by-number (some k) e = refused-trip g c k e
+    by-number (some k) e = rw (move-refused (by forward c) g k e, move-refused (by back 0) g k e) (refused-twice g k)
     by-number none e = let en = entered g e in wound-trip g c (en .0) (en .1)
