@@ -57,6 +57,7 @@ abbrev pub positionAfter : Way → ℕ → ℕ
 positionAfter forward p = p + 1
 positionAfter back p = p - 1
 
+-- and its direction: going back, that of the step turned again
 abbrev pub facingDir : Way → Dir → Dir
 facingDir forward d = d
 facingDir back d = turned d
@@ -105,7 +106,7 @@ ruleDir (Six j) = down
 ruleDir (Seven j) = up
 ruleDir (Eight j) = down
 
--- Before a step by a rule, which has k turns, and goes forward from no greatest position or back from none of 0: the turns after it; going back, a jam where they would be "below 0, or above the new position".
+-- Before a step by a rule, which has k turns: the turns after it; going back from a position that is not 0, a jam where they would be "below 0, or above the new position".
 abbrev pub turnsLeft : Way → Declared.Session → Rule → ℕ → Before
 turnsLeft forward se r k = Makes r (se .turns + k)
 turnsLeft back se r k = cond (leb k (se .turns) && ltb (se .turns - k) (se .position)) (Makes r (se .turns - k)) (Ends Jam)

@@ -202,7 +202,8 @@ fn with_turns(session: Session, way: Way, rule: Rule, turn: u32) -> Before
     }
 }
 
-// What ends a walk before a step, the count not used up, but for a full slice, which the step finds. The tests are in the order of document 01. The rule is chosen in one place
+// What ends a walk before a step, the count not used up, but for a full slice, which the step finds. The tests are in the order of document 01; far is said forward alone, and
+// the jam of the turns back alone, so that these two may be asked in either order. The rule is chosen in one place
 // for both ways, so that the compiler puts the choice into the loop.
 fn before_step(table: &[u16], n: u32, session: Session, tape: &[u32], way: Way) -> Before
     requires { ⌜ (session .«tape_len» ≤ length (now tape)) × (session .turns ≤ session .position) ⌝ }
