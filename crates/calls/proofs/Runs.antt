@@ -84,6 +84,10 @@ module _ (T : Table) (r : Room) (m₀ : Moment) where
   trail-good F g begun = g
   trail-good F g (then {u = u} {m = m} t e f) = keeps-good T F (u .state) (m .state) (trail-good F g t) (next-forward T u m e .0)
 
+  -- one step further, where no stop comes
+  trail-on : (c : ℕ) (m u : Moment) → stopBefore forward T r (suc c) m ≡ none → nextBy forward T m ≡ some u → {k : ℕ} → Trail T r m₀ k m → Trail T r m₀ (suc k) u
+  trail-on c m u e n t = then t n (fits-next forward T r (suc c) m e u n)
+
   -- A run forward from the end of k steps.
   pub record On (k : ℕ) (run : Run) : Type 0 where
     pub trail : Trail T r m₀ (k + run .steps) (run .last)
@@ -103,7 +107,7 @@ module _ (T : Table) (r : Room) (m₀ : Moment) where
       each-run forward T r (λ c m run. (k : ℕ) → Trail T r m₀ k m → On k run)
       (λ m k t. on-here k m spent t)
       (λ c m x e k t. on-here k m x t)
-      (λ c m u run e n more k t. on-longer k m run t (more (suc k) (then t n (fits-next forward T r (suc c) m e u n))))
+      (λ c m u run e n more k t. on-longer k m run t (more (suc k) (trail-on c m u e n t)))
 
   -- A run back by c from the end of k steps.
   pub record Off (c k : ℕ) (run : Run) : Type 0 where
@@ -175,7 +179,7 @@ module _ (T : Table) (r : Room) (s₀ : State) where
       each-run forward T r (λ c m run. (p : ℕ) → Trail T r (beginning s₀) p m → run .steps ≡ allowed T s₀ r c p)
       (λ m p t. refl)
       (λ c m x e p t. rw (trail-stops (suc c) p t ∙ e))
-      (λ c m u run e n more p t. rw (trail-stops (suc c) p t ∙ e) (ap suc (more (suc p) (then t n (fits-next forward T r (suc c) m e u n)))))
+      (λ c m u run e n more p t. rw (trail-stops (suc c) p t ∙ e) (ap suc (more (suc p) (trail-on T r (beginning s₀) c m u e n t))))
 
   -- And its stop is the first of the tests that applies after them.
   pub forward-stops : (c : ℕ) (m : Moment) (p : ℕ) → Trail T r (beginning s₀) p m
@@ -187,4 +191,4 @@ module _ (T : Table) (r : Room) (s₀ : State) where
       (λ c m u run e n more p t.
       let k : p + suc (run .steps) ≡ suc p + run .steps = omega arith in
       let j : suc c - suc (run .steps) ≡ c - run .steps = omega arith in
-      ap₂ (stopAfter T s₀ r) j k ∙ more (suc p) (then t n (fits-next forward T r (suc c) m e u n)))
+      ap₂ (stopAfter T s₀ r) j k ∙ more (suc p) (trail-on T r (beginning s₀) c m u e n t))
