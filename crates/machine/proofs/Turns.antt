@@ -41,8 +41,8 @@ turn-back down up = refl
 turn-back up down = refl
 turn-back up up = refl
 
--- and with both directions turned.
-pub turn-turned : (d e : Dir) → turnBetween (turned d) (turned e) ≡ turnBetween d e
+-- and from a direction turned as many as to one turned.
+pub turn-turned : (d e : Dir) → turnBetween (turned d) e ≡ turnBetween d (turned e)
 turn-turned down down = refl
 turn-turned down up = refl
 turn-turned up down = refl

@@ -112,13 +112,6 @@ pub next-backward : (T : Table) (s u : State) (se : Session) → step T (turn s)
     → nextBy back T (momentOf se s) ≡ cond (leavesTurns (momentOf se s) (turn u)) (some (backward (momentOf se s) (turn u))) none
 next-backward T s u se e = rw e refl
 
--- Its turns are those of the step from what is turned about.
-pub turn-facing : (d e : Dir) → turnBetween (turned d) e ≡ turnBetween d (turned e)
-turn-facing down down = refl
-turn-facing down up = refl
-turn-facing up down = refl
-turn-facing up up = refl
-
 -- A step has a turn where its directions are not the same.
 pub turn-told : (d e : Dir) → cond (sameDir d e) 0 1 ≡ turnBetween d e
 turn-told down down = refl

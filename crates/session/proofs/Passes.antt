@@ -15,7 +15,7 @@ use Rattle.machine.specs.Turns.{turnBetween}
 use Rattle.calls.specs.Session.{answer}
 use Rattle.calls.specs.Stops.{Way, forward, back, Moment, moment, momentOf, room, greatest, logSize, tapeSize, nextBy}
 use Rattle.term.proofs.Facts.{accepted-facts}
-use Rattle.machine.proofs.Turns.{turn-once}
+use Rattle.machine.proofs.Turns.{turn-once, turn-turned}
 use Rattle.calls.proofs.Held.{held-once}
 use Rattle.calls.proofs.Moments.{next-few}
 use Rattle.calls.proofs.Stops.{Fits, answer-before-jam, jam-before-far, far-before-full, no-halt-forward, start-before-jam, jam-before-full-back, no-halt-back, halt-before-full, log-full-next, tape-full-next, no-stop-next}
@@ -33,7 +33,7 @@ use Rattle.session.specs.declared.rules.Stepped.the-variants as Steps
 use Rattle.session.specs.declared.winding.Before.the-variants.{Ends, Makes}
 use Rattle.session.specs.declared.winding.Pass.the-variants.{On, Halted}
 use Rattle.session.proofs.Arrivals.{fits-within}
-use Rattle.session.proofs.Facing.{token-after, log-facing, tape-facing, next-onward, next-backward, turn-facing, carried-facing}
+use Rattle.session.proofs.Facing.{token-after, log-facing, tape-facing, next-onward, next-backward, carried-facing}
 
 -- every rule makes a step
 abbrev pub rule-steps : (T : Table) (s : State) (r : Rule) → RuleIs T s r → (u : State) × (step T s ≡ some u)
@@ -103,7 +103,7 @@ module _ {w : List ℕ} {n : ℕ} {se : Declared.Session} {ls ts : List ℕ} {s 
     back-next u e =
         next-backward T s u (sessionMeant se) e
         ∙ ap (λ k. cond (leb k (se .turns) && leb (se .turns - k) (se .position - 1)) (some (moment (turn u) (se .position - 1) (se .turns - k))) none)
-        (sym (turn-facing (s .dir) (u .dir)) ∙ ap (turnBetween (turned (s .dir))) (rule-leads T (turn s) r f u e))
+        (sym (turn-turned (s .dir) (u .dir)) ∙ ap (turnBetween (turned (s .dir))) (rule-leads T (turn s) r f u e))
         ∙ ap (λ b. cond (leb taken (se .turns) && b) (some (moment (turn u) (se .position - 1) (se .turns - taken))) none) (sym (below (se .turns - taken) (se .position) past))
 
     back-turns : (b : Bool) → leb taken (se .turns) && ltb (se .turns - taken) (se .position) ≡ b → BeforeIs w n se back s (cond b (Makes r (se .turns - taken)) (Ends Jam))
