@@ -19,7 +19,7 @@ use Rattle.machine.specs.Slice.{slice, readLog, readTape, allZero}
 use Rattle.machine.proofs.Load.{log-read, tape-read, slice-front, slice-clean}
 use Rattle.machine.proofs.Read.{log-valid, tape-valid, laid}
 use Rattle.calls.specs.Session.{Session}
-use Rattle.calls.specs.Held.{Holds, wellFormed, stateIn}
+use Rattle.calls.specs.Held.{Holds, fewTurns, wellFormed, stateIn}
 
 -- words at the low end of a slice s
 module _ (ws s : List ℕ) (k : ℕ) where
@@ -32,6 +32,10 @@ module _ (ws s : List ℕ) (k : ℕ) where
 
     zeros-above : allZero (drop k s) ≡ true
     zeros-above = ap₂ (λ m xs. allZero (drop m xs)) many lies ∙ slice-clean (length s) ws
+
+-- what it tests of the turns
+turns-exactly : (se : Session) → (fewTurns se ≡ true) ↔ (se .turns ≤ se .position)
+turns-exactly se = (leb-true (se .turns) (se .position), le-leb (se .turns) (se .position))
 
 -- what `wellFormed` tests
 record Formed (T : Table) (se : Session) (ls ts : List ℕ) : Type 0 where
@@ -58,7 +62,7 @@ module _ (T : Table) (se : Session) (ls ts : List ℕ) where
         tape-fits = leb-true (se .tapeLength) (length ts) (tests .0 .0 .0 .1);
         log-clean = tests .0 .0 .1;
         tape-clean = tests .0 .1;
-        turns-fit = leb-true (se .turns) (se .position) (tests .1);
+        turns-fit = turns-exactly se .0 (tests .1);
       }
 
   -- the state found, by what `wellFormed` and the two readings came out as
@@ -105,7 +109,7 @@ module _ (T : Table) (se : Session) (ls ts : List ℕ) where
           le-leb (se .tapeLength) (length ts) (h .tape-fits),
           zeros-above (logWords (s .log)) ls (se .logLength) (h .log-length) (h .log-lies),
           zeros-above (tapeWords (s .tape)) ts (se .tapeLength) (h .tape-length) (h .tape-lies),
-          le-leb (se .turns) (se .position) (h .turns-fit),
+          turns-exactly se .1 (h .turns-fit),
         )
 
     holds-found : stateIn T se ls ts ≡ some s

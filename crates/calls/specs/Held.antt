@@ -28,7 +28,11 @@ pub record Holds (T : Table) (se : Session) (ls ts : List ℕ) (s : State) : Typ
   pub tape-lies : ts ≡ slice (length ts) (tapeWords (s .tape))
   pub turns-fit : se .turns ≤ se .position
 
--- The same as a test: the state that they hold, if they hold one. "no such node; a length over its slice; .. a word not 0 above a top", and "turns greater than the position" (document 02, change 9):
+-- The same as a test: the state that they hold, if they hold one. No "turns greater than the position" (document 02, change 9),
+abbrev pub fewTurns : Session → Bool
+fewTurns se = leb (se .turns) (se .position)
+
+-- and not "no such node; a length over its slice; .. a word not 0 above a top":
 unfoldable pub wellFormed : Table → Session → List ℕ → List ℕ → Bool
 wellFormed T se ls ts =
     leb 1 (se .node)
@@ -37,7 +41,7 @@ wellFormed T se ls ts =
     && leb (se .tapeLength) (length ts)
     && allZero (drop (se .logLength) ls)
     && allZero (drop (se .tapeLength) ts)
-    && leb (se .turns) (se .position)
+    && fewTurns se
 
 -- "log not exactly level-many entries; tape not bullets and entries"
 unfoldable pub stateIn : Table → Session → List ℕ → List ℕ → Option State
