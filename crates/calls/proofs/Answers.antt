@@ -1,8 +1,9 @@
 -- What every kind of call answers: refused, it gives back what it was given; else it winds from the state that lies in its slices. What holds of both holds of every answer.
 use mathlib.Core.Path.{_≡_, refl, ap, _∙_}
-use mathlib.Core.Option.{Option, none, some}
+use mathlib.Core.Option.{Option, none, some, Option·some-ne-none, Option·some-injective}
 use mathlib.Core.List.{List}
-use Prim.Native.Nat.{ℕ, _≤_}
+use Prim.Native.Nat.{ℕ, _≤_, _<_}
+use native.Mathlib.Omega.{arith}
 use Rattle.term.specs.Choice.{ifSome}
 use Rattle.term.specs.Table.{Table, tableIn}
 use Rattle.term.specs.Accepted.{Accepted}
@@ -13,7 +14,8 @@ use Rattle.calls.specs.Stops.{Moment, momentOf, Room, room}
 use Rattle.calls.specs.Calls.{longest, callTests, callNumber, Enters, refusedOutcome, wound}
 use Rattle.calls.specs.Moves.{Move, outcomeOf, ownTests, ownNumber, wayOf, runOf}
 use Rattle.calls.specs.Demand.{givenTo, RefusedCall}
-use Rattle.calls.proofs.Order.{first-of-both}
+use Rattle.calls.proofs.Order.{first-of-both, first-names}
+use Rattle.calls.proofs.Unrefused.{call-names}
 use Rattle.calls.proofs.Stops.{Fits}
 use Rattle.calls.proofs.Moments.{FewTurns}
 use Rattle.calls.proofs.Visits.{Unrefused, found-unrefused, none-unrefused, wind-unrefused}
@@ -45,6 +47,24 @@ module _ (m : Move) (g : Given) where
 
     pub own-refused : callNumber g ≡ none → ownNumber m (g .n) (g .session .position) ≡ some k → outcomeOf m g ≡ refusedOutcome k g
     own-refused e o = by-number (rw (number-by, e) o)
+
+  -- No number: none of 7 to 9, and none of its own.
+  pub unrefused-by : moveNumber m g ≡ none → (callNumber g ≡ none) × (ownNumber m (g .n) (g .session .position) ≡ none)
+  unrefused-by h = by-call (callNumber g) refl
+    where
+      by-call : (o : Option ℕ) → callNumber g ≡ o → (callNumber g ≡ none) × (ownNumber m (g .n) (g .session .position) ≡ none)
+      by-call (some k) e = absurd (Option·some-ne-none k (rw (number-by, e) at h))
+      by-call none e = (e, rw (number-by, e) at h)
+
+  -- Of all numbers that refuse a call 7 is the least.
+  pub move-names : (k : ℕ) → moveNumber m g ≡ some k → 7 ≤ k
+  move-names k h = by-call (callNumber g) refl
+    where
+      by-call : (o : Option ℕ) → callNumber g ≡ o → 7 ≤ k
+      by-call (some j) e = let same : j ≡ k = Option·some-injective j k (rw (number-by, e) at h) in let from-seven = call-names g j e .0 in omega arith
+      by-call none e =
+          let above : 9 < k = first-names (λ j. 9 < j) (ownTests m (g .n) (g .session .position)) (laws m .names (g .n) (g .session .position)) k (rw (number-by, e) at h) in
+          omega arith
 
   -- A call that enters at a state, and is not turned away, winds from it.
   pub moved : (s : State) → Enters g s → ownNumber m (g .n) (g .session .position) ≡ none

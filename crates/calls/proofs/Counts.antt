@@ -107,6 +107,7 @@ go-to-walks T r P x i j false w = w .walk j
 
 pub count-laws : (way : Way) (c : ℕ) → MoveLaws (by way c)
 count-laws way c = record {
+  names = λ n p. tt;
   shape = count-shape way c;
   walks = λ T r P x w. w .walk c;
   takes = λ T r s₀ p s h. count-takes T r s₀ p s h way c;
@@ -114,6 +115,7 @@ count-laws way c = record {
 
 pub go-to-laws : (q : ℕ) → MoveLaws (go-to q)
 go-to-laws q = record {
+  names = λ n p. tt;
   shape = go-to-shape q;
   walks = λ T r P x w. go-to-walks T r P x (q - x .position) (x .position - q) (leb (x .position) q) w;
   takes = λ T r s₀ p s h. go-to-takes T r s₀ p s h q;

@@ -2,7 +2,7 @@
 use mathlib.Core.Path.{_≡_}
 use mathlib.Core.Option.{Option}
 use mathlib.Core.List.{_++_}
-use Prim.Native.Nat.{ℕ, _+_, _-_}
+use Prim.Native.Nat.{ℕ, _+_, _-_, _<_}
 use Rattle.term.specs.Choice.{first}
 use Rattle.term.specs.Table.{Table, tableIn}
 use Rattle.term.specs.Facts.{Facts}
@@ -15,6 +15,7 @@ use Rattle.calls.specs.Winding.{Run, ended, wind}
 use Rattle.calls.specs.Calls.{stateGiven, callTests, outcomeBy}
 use Rattle.calls.specs.Visits.{foundBy}
 use Rattle.calls.specs.Moves.{Move, outcomeOf, ownTests, wayOf, runOf, Course, course}
+use Rattle.calls.proofs.Order.{AllName}
 use Rattle.calls.proofs.Stops.{Fits}
 use Rattle.calls.proofs.Runs.{Unhindered, Trail}
 
@@ -51,7 +52,9 @@ module _ (T : Table) (r : Room) (s₀ : State) where
     pub unhindered : way ≡ back → Unhindered (run .stop)
     pub stop-says : c .says (run .stop)
 
+-- Its own numbers come after those of every call.
 pub record MoveLaws (m : Move) : Type 1 where
+  pub names : (n p : ℕ) → AllName (λ k. 9 < k) (ownTests m n p)
   pub shape : (g : Given) → outcomeOf m g ≡ shaped m g
   pub walks : (T : Table) (r : Room) (P : Run → Type 0) (x : Moment) → OfWalks (wayOf m (x .position)) T r P x → P (runOf m T r x)
   pub takes : (T : Table) (r : Room) (s₀ : State) (p : ℕ) (s : State) → Stood T r s₀ p (momentAfter T s₀ p s) → Takes T r s₀ (wayOf m p) p (course T s₀ r m p) (runOf m T r (momentAfter T s₀ p s))

@@ -166,6 +166,7 @@ back-to-shape v g = refl
 
 pub forward-to-laws : (v : Spot) (c : ℕ) → MoveLaws (forward-to v c)
 forward-to-laws v c = record {
+  names = λ n p. (omega arith, tt);
   shape = forward-to-shape v c;
   walks = λ T r P x w. each-sought P (λ k f. w .found k) (w .walk c) (sought forward T r v c x);
   takes = λ T r s₀ p s h. forward-takes T r s₀ p s h v c (sought forward T r v c (momentAfter T s₀ p s));
@@ -173,6 +174,7 @@ forward-to-laws v c = record {
 
 pub back-to-laws : (v : Spot) → MoveLaws (back-to v)
 back-to-laws v = record {
+  names = λ n p. (omega arith, tt);
   shape = back-to-shape v;
   walks = λ T r P x w. each-sought P (λ k f. w .found k) (w .none) (sought-back T r v x);
   takes = λ T r s₀ p s h. back-takes T r s₀ p s h v (sought-back T r v (momentAfter T s₀ p s));

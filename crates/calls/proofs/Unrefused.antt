@@ -62,37 +62,54 @@ module _ (g : Given) where
     pub call-unrefused : (s : State) → stateGiven g ≡ some s → callNumber g ≡ none
     call-unrefused s h = rw (call-by, e, h)
 
--- the calls to a spot: these, and then 12
+-- These, and then a test of the call's own, that names k.
+module _ (g : Given) (b : Bool) (k : ℕ) where
+  abbrev lastly : Option ℕ
+  lastly = first (callTests g ++ ((b ⇒ k) ∷ []))
+
+  own-by : lastly ≡ ifSome (callNumber g) (λ j. some j) (λ _. first ((b ⇒ k) ∷ []))
+  unfolding callNumber
+  own-by = first-of-both (callTests g) ((b ⇒ k) ∷ [])
+
+  own-as-call : (j : ℕ) → callNumber g ≡ some j → lastly ≡ some j
+  own-as-call j e = rw (own-by, e)
+
+  module _ (e : callNumber g ≡ none) where
+    own-applies : b ≡ true → lastly ≡ some k
+    own-applies h = rw (own-by, e, h)
+
+    own-passes : b ≡ false → lastly ≡ none
+    own-passes h = rw (own-by, e, h)
+
+  -- It names k exactly where none of 7 to 9 applies and the test does.
+  own-exactly : 9 < k → (lastly ≡ some k) ↔ ((callNumber g ≡ none) × (b ≡ true))
+  own-exactly above = (λ h. by-call h (callNumber g) refl, λ h. own-applies (h .0) (h .1))
+    where
+      by-test : lastly ≡ some k → callNumber g ≡ none → (d : Bool) → b ≡ d → (callNumber g ≡ none) × (b ≡ true)
+      by-test h e true o = (e, o)
+      by-test h e false o = absurd (Option·some-ne-none k (sym h ∙ own-passes e o))
+
+      by-call : lastly ≡ some k → (q : Option ℕ) → callNumber g ≡ q → (callNumber g ≡ none) × (b ≡ true)
+      by-call h (some j) e =
+          let to-nine : j ≤ 9 = call-names g j e .1 in
+          let same : k ≡ j = Option·some-injective k j (sym h ∙ own-as-call j e) in
+          absurd (omega arith)
+      by-call h none e = by-test h e b refl
+
+-- the calls to a spot: 12
 module _ (i : ℕ) (g : Given) where
-  visit-by : visitNumber i g ≡ ifSome (callNumber g) (λ k. some k) (λ _. first ((offTerm (g .n) i ⇒ 12) ∷ []))
-  unfolding callNumber visitNumber
-  visit-by = first-of-both (callTests g) ((offTerm (g .n) i ⇒ 12) ∷ [])
-
-  pub visit-names : (k : ℕ) → visitNumber i g ≡ some k → 7 ≤ k
-  unfolding visitNumber
-  visit-names = first-names (λ k. 7 ≤ k) (callTests g ++ ((offTerm (g .n) i ⇒ 12) ∷ [])) (omega arith, (omega arith, (omega arith, (omega arith, tt))))
-
   pub visit-as-call : (k : ℕ) → callNumber g ≡ some k → visitNumber i g ≡ some k
-  visit-as-call k e = rw (visit-by, e)
+  unfolding visitNumber
+  visit-as-call = own-as-call g (offTerm (g .n) i) 12
 
   module _ (e : callNumber g ≡ none) where
     pub visit-twelve : offTerm (g .n) i ≡ true → visitNumber i g ≡ some 12
-    visit-twelve h = rw (visit-by, e, h)
+    unfolding visitNumber
+    visit-twelve = own-applies g (offTerm (g .n) i) 12 e
 
     pub visit-unrefused : offTerm (g .n) i ≡ false → visitNumber i g ≡ none
-    visit-unrefused h = rw (visit-by, e, h)
-
-  -- No number says that none of 7 to 9 applies, and that the node is the term's.
-  pub visit-none : visitNumber i g ≡ none → (callNumber g ≡ none) × (offTerm (g .n) i ≡ false)
-  visit-none h = by-call (callNumber g) refl
-    where
-      by-node : callNumber g ≡ none → (b : Bool) → offTerm (g .n) i ≡ b → (callNumber g ≡ none) × (offTerm (g .n) i ≡ false)
-      by-node e true o = absurd (Option·some-ne-none 12 (sym (visit-twelve e o) ∙ h))
-      by-node e false o = (e, o)
-
-      by-call : (o : Option ℕ) → callNumber g ≡ o → (callNumber g ≡ none) × (offTerm (g .n) i ≡ false)
-      by-call (some k) e = absurd (Option·some-ne-none k (sym (visit-as-call k e) ∙ h))
-      by-call none e = by-node e (offTerm (g .n) i) refl
+    unfolding visitNumber
+    visit-unrefused = own-passes g (offTerm (g .n) i) 12 e
 
   -- "12, after 9, when the node is 0 or over n", and no other time.
   off-term : offTerm (g .n) i ≡ true → (i ≡ 0) ⊎ (g .n < i)
@@ -107,15 +124,7 @@ module _ (i : ℕ) (g : Given) where
   named-off (inr l) = rw (lt-ltb (g .n) i l, or-true)
 
   pub twelve-exactly : (visitNumber i g ≡ some 12) ↔ ((callNumber g ≡ none) × ((i ≡ 0) ⊎ (g .n < i)))
-  twelve-exactly = (λ h. by-call h (callNumber g) refl, λ h. visit-twelve (h .0) (named-off (h .1)))
-    where
-      by-node : visitNumber i g ≡ some 12 → callNumber g ≡ none → (b : Bool) → offTerm (g .n) i ≡ b → (callNumber g ≡ none) × ((i ≡ 0) ⊎ (g .n < i))
-      by-node h e true o = (e, off-term o)
-      by-node h e false o = absurd (Option·some-ne-none 12 (sym h ∙ visit-unrefused e o))
-
-      by-call : visitNumber i g ≡ some 12 → (q : Option ℕ) → callNumber g ≡ q → (callNumber g ≡ none) × ((i ≡ 0) ⊎ (g .n < i))
-      by-call h (some k) e =
-          let to-nine : k ≤ 9 = call-names g k e .1 in
-          let same : 12 ≡ k = Option·some-injective 12 k (sym h ∙ visit-as-call k e) in
-          absurd (omega arith)
-      by-call h none e = by-node h e (offTerm (g .n) i) refl
+  unfolding visitNumber
+  twelve-exactly =
+      let exactly = own-exactly g (offTerm (g .n) i) 12 (omega arith) in
+      (λ h. (exactly .0 h .0, off-term (exactly .0 h .1)), λ h. exactly .1 (h .0, named-off (h .1)))

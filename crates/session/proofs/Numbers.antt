@@ -13,8 +13,10 @@ use Rattle.machine.specs.Slice.{slice}
 use Rattle.calls.specs.Session.{Given}
 use Rattle.calls.specs.Stops.{startMoment}
 use Rattle.calls.specs.Calls.{lentNumber, stateGiven, callNumber, noSession, sessionAt, openOf}
-use Rattle.calls.specs.Visits.{visitNumber}
-use Rattle.calls.proofs.Unrefused.{lent-names, call-names, call-nine, call-unrefused, visit-names}
+use Rattle.calls.specs.Moves.{Move}
+use Rattle.calls.proofs.Unrefused.{lent-names, call-names, call-nine, call-unrefused}
+use Rattle.calls.proofs.MoveLaws.{moveNumber}
+use Rattle.calls.proofs.Answers.{move-names}
 use Rattle.session.specs.Types.{numberMeant}
 
 pub number-some : (o : Option ℕ) (k : ℕ) → k ≡ numberMeant o → (k ≡ 0 → ⊥) → o ≡ some k
@@ -32,8 +34,8 @@ module _ (g : Given) where
   pub call-none : 0 ≡ numberMeant (callNumber g) → callNumber g ≡ none
   call-none = number-none (callNumber g) (λ k h z. let from-seven = call-names g k h .0 in omega arith)
 
-  pub visited-none : (i : ℕ) → 0 ≡ numberMeant (visitNumber i g) → visitNumber i g ≡ none
-  visited-none i = number-none (visitNumber i g) (λ k h z. let from-seven = visit-names i g k h in omega arith)
+  pub move-none : (m : Move) → 0 ≡ numberMeant (moveNumber m g) → moveNumber m g ≡ none
+  move-none m = number-none (moveNumber m g) (λ k h z. let from-seven = move-names m g k h in omega arith)
 
   -- 9 or none, by whether there is a state
   module _ (e : lentNumber (g .table) (g .n) (g .log) (g .tape) ≡ none) where

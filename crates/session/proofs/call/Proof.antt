@@ -1,14 +1,17 @@
 -- A call by its number: refused, or wound.
 use mathlib.Core.Path.{_≡_, sym, _∙_}
 use Rattle.calls.specs.Calls.{callNumber}
+use Rattle.calls.specs.Moves.{by}
+use Rattle.calls.proofs.MoveLaws.{moveNumber}
 use Rattle.session.specs.Types.{wayMeant, lent, numberMeant}
-use Rattle.session.proofs.Calls.{call-refused, call-ready, call-winds}
+use Rattle.session.proofs.Calls.{move-refuses, move-ready, move-winds}
 use borrow.Author.Needs.{needs}
 use Rattle.session.proofs.call.Statement.{statement}
 use Rattle.session.proofs.call.Tie as tie
 
 -- past the test the number is 0
-unrefused : (u : tie.Else1) → (let a = u .before .before .before .before .before .before .before .args in 0 ≡ numberMeant (callNumber (lent (a .table .now) (a .n) (a .session) (a .log .now) (a .tape .now))))
+unrefused : (u : tie.Else1) → (let a = u .before .before .before .before .before .before .before .args in 0 ≡ numberMeant (moveNumber (by (wayMeant (a .way)) (a .count)) (lent (a .table .now) (a .n) (a .session) (a .log .now) (a .tape .now))))
+unfolding callNumber
 unrefused u = sym (u .if1 .left) ∙ u .before .call-number .ensures
 
 call-number-requires : tie.Need-call-number-requires
@@ -24,13 +27,14 @@ same-length-2 : tie.Need-same-length-2
 same-length-2 c = search needs
 
 returns : tie.Need-returns
+unfolding callNumber
 returns c =
     let a = c .before .before .before .before .before .before .before .before .args in
     let k = c .before .before .call-number in
-    call-refused (a .table .now) (a .n) (a .session) (a .log .now) (a .tape .now) (wayMeant (a .way)) (a .count) (k .result) (c .refused-outcome .result) (k .ensures) (c .before .if1 .taken) (c .refused-outcome .ensures)
+    move-refuses (by (wayMeant (a .way)) (a .count)) (a .table .now) (a .n) (a .session) (a .log .now) (a .tape .now) (k .result) (c .refused-outcome .result) (k .ensures) (c .before .if1 .taken) (c .refused-outcome .ensures)
 
 wind-requires : tie.Need-wind-requires
-wind-requires c κs = let a = c .before .before .before .before .before .before .before .before .before .args in call-ready (a .table .now) (a .n) (a .session) (a .log .now) (a .tape .now) (unrefused (c .before .before))
+wind-requires c κs = let a = c .before .before .before .before .before .before .before .before .before .args in move-ready (by (wayMeant (a .way)) (a .count)) (a .table .now) (a .n) (a .session) (a .log .now) (a .tape .now) (unrefused (c .before .before))
 
 same-length-3 : tie.Need-same-length-3
 same-length-3 c = search needs
@@ -42,7 +46,7 @@ returns-2 : tie.Need-returns-2
 returns-2 c =
     let a = c .before .before .before .before .before .before .before .before .before .before .before .before .before .before .args in
     let k = c .before .before .before .before .wind in
-    call-winds (a .table .now) (a .n) (a .session) (a .log .now) (a .tape .now) (unrefused (c .before .before .before .before .before .before .before)) (a .way) (a .count) (k .result) (k .last .1 .1 .1 .0) (k .last .1 .1 .1 .1 .0) (k .ensures)
+    move-winds (by (wayMeant (a .way)) (a .count)) (a .table .now) (a .n) (a .session) (a .log .now) (a .tape .now) (unrefused (c .before .before .before .before .before .before .before)) (k .result) (k .last .1 .1 .1 .0) (k .last .1 .1 .1 .1 .0) (k .ensures)
 
 pub call-spec : {M : Type 1} → statement M
 call-spec =
