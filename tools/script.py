@@ -4,7 +4,7 @@ from itertools import groupby
 from reference import (GREATEST, START, Machine, Session, accepted, back_to, call, forward_to, go_to, in_columns, lay, open_session, read, read_numbers,
                        to_names, to_numbers, top, wind, words, write, write_numbers)
 
-LONGEST_SCRIPT, LONGEST_TEXT, LONGEST_BUFFER, LONGEST_WRITTEN = 65535, 3001, 3010, 3000
+LONGEST_SCRIPT, LONGEST_TEXT, LONGEST_BUFFER, LONGEST_WRITTEN = 131071, 3001, 3010, 3000
 GREATEST_IN_TABLE = 65535
 
 

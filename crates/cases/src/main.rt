@@ -129,9 +129,9 @@ fn run(script: &[u8], table: &mut [u16], log: &mut [u32], tape: &mut [u32]) {
 
 fn main() {
     // One byte more than a script may have, so that a longer one shows.
-    let mut script = [0u8; 65536];
+    let mut script = [0u8; 131072];
     let got = io::read_full(0, &mut script);
-    if 65535 < got {
+    if 131071 < got {
         show_wrong(b"the script is too long");
         return;
     }
