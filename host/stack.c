@@ -29,6 +29,8 @@ static void *to_names(void *unused) { yildreuz_to_names(text, text_len, written,
 static void *opens(void *unused) { session = yildreuz_open(table, TABLE, n, ALL_SLICES).session; return unused; }
 static void *forward(void *unused) { session = yildreuz_forward(table, TABLE, n, session, ALL_SLICES, 20000).session; return unused; }
 static void *back(void *unused) { session = yildreuz_back(table, TABLE, n, session, ALL_SLICES, 10000).session; return unused; }
+static void *looks(void *unused) { yildreuz_look(table, TABLE, n, session, ALL_SLICES, 20000); return unused; }
+static void *goes(void *unused) { session = yildreuz_go(table, TABLE, n, session, ALL_SLICES, session.position, 20000).session; return unused; }
 static void *tops(void *unused) { uint32_t refusal; yildreuz_top(table, TABLE, n, session, ALL_SLICES, YILDREUZ_TAPE, &refusal); return unused; }
 static void *goes_to(void *unused) { session = yildreuz_go_to(table, TABLE, n, session, ALL_SLICES, 0).session; return unused; }
 static void *forward_to(void *unused) { session = yildreuz_forward_to(table, TABLE, n, session, ALL_SLICES, 1, YILDREUZ_UP, 20000).session; return unused; }
@@ -100,8 +102,10 @@ static void measure_calls(const char *on)
     measure("write", on, writes, YILDREUZ_CALL_STACK);
     measure("write_numbers", on, writes_numbers, YILDREUZ_CALL_STACK);
     measure("open", on, opens, YILDREUZ_CALL_STACK);
+    measure("look", on, looks, YILDREUZ_CALL_STACK);
     measure("forward", on, forward, YILDREUZ_CALL_STACK);
     measure("back", on, back, YILDREUZ_CALL_STACK);
+    measure("go", on, goes, YILDREUZ_CALL_STACK);
     measure("top", on, tops, YILDREUZ_CALL_STACK);
     measure("go_to", on, goes_to, YILDREUZ_CALL_STACK);
     measure("forward_to", on, forward_to, YILDREUZ_CALL_STACK);

@@ -1,7 +1,8 @@
 /* Yildreuz for C and C++: reads a closed lambda-term and writes it back as text, with names or with numbers for its
    variables, converts a text of either kind into the other, opens a session on a term, moves a token over it, forward,
-   back, to a position or to the last or next visit of a node, and points at the newest entry that the token carries. Link
-   libyildreuz.a (x86-64 Linux), which needs memset of the C library and nothing else.
+   back, to a position or to the last or next visit of a node, tells what a walk forward would come to before it is made,
+   and points at the newest entry that the token carries. Link libyildreuz.a (x86-64 Linux), which needs memset of the C
+   library and nothing else.
 
    Who owns what. Every byte and word is the caller's. A call borrows texts, table, log and tape while it runs: it keeps
    no pointer, allocates nothing, and has no state of its own, so calls that write different slices may run at the same
@@ -15,9 +16,9 @@
    - every pointer is aligned for its type, and none is NULL, even where its length is 0;
    - a slice or word that a call writes overlaps nothing else that the call is lent.
 
-   What a refusal leaves. No lent byte or word differs but the one through which top tells the number, and a session given
-   comes back as it was, number for number. Every other number of the answer is 0, but for the refusal's own and, in an
-   outcome, the stop YILDREUZ_REFUSED:
+   What a refusal leaves. No lent byte or word differs but the one through which top tells the number, and where a session
+   is answered to one that was given, it is that one, number for number. Every other number of the answer is 0, but for the
+   refusal's own and, in the answers of the calls that wind and of look, the stop YILDREUZ_REFUSED:
      1  the text has more than 3,000 bytes            6  the table has fewer than 5 words for each node of the term
      2  it has a byte that no term has                7  n is 0 or over 3,000, the table has fewer than 5 x n words,
      3  it has a name over 8 bytes, or one that          or no closed term has it
@@ -30,10 +31,11 @@
                                                          than are lent
                                                      12  the node to be visited is 0 or over n, or the direction of
                                                          the visit is neither 0 nor 1
+                                                     15  the session's position is not the one that go is handed
    A table's words have 16 bits, and 6 and 7 count these; those of log and tape have 32.
    Each call tests its numbers in this order: read 1 to 6; read_numbers 1, 13, 14, 6; write and write_numbers 7, 11;
    to_numbers 1 to 5, 11; to_names 1, 13, 14, 11; open 7, 8; forward, back and go_to 7 to 9; back_to and forward_to 7 to 9,
-   12; top 7 to 10.
+   12; look 7 to 9; go 7 to 9, 15; top 7 to 10.
 
    What lies in the slices. A table is five columns of n words, one behind the other: the nodes' kinds, lefts, rights,
    parents and levels. Field f of node i, f from 0 to 4 and i from 1 to n, is table[f * n + i - 1], so that a pointer to its
@@ -56,15 +58,17 @@
    is nothing else, no line feed at the end either: (\x.x x)(\y.y) is @ \ @ 0 0 \ 0.
 
    What holds after every list of calls. Open a session on a table that was read, and hand each call of forward, back,
-   go_to, back_to and forward_to the session, log and tape that the one before left: then these are, word for word, those
-   of the machine after as many steps as the position says, however the calls were mixed, the turns are how many of these
-   steps changed direction, and each call carried what the machine's steps between its two positions carry. This is proved,
-   as is every answer of every call.
+   go_to, back_to, forward_to, look and go the session, log and tape that the one before left: then these are, word for
+   word, those of the machine after as many steps as the position says, however the calls were mixed, the turns are how many
+   of these steps changed direction, and each call that winds carried what the machine's steps between its two positions
+   carry. A look leaves the session and adds no step: what it tells, with the words carried, is what the machine comes to
+   from there. This is proved, as is every answer of every call.
 
    How long a call takes. Each call ends; it first looks over the whole table and both slices, and then makes its steps,
    which may be billions where the count, or the way to the position, is that long. A viewer that must stay awake winds
    in pieces, and one that winds far does so by large counts rather than by many small ones. back_to has no count: it may
-   wind back to position 0, and forward again where there is no visit, however great the position is.
+   wind back to position 0, and forward again where there is no visit, however great the position is. A look makes the steps
+   that it tells of, and as many back.
 
    Stack. A call needs no more than the constants below say: measured on the deepest texts and tables that there are, and
    rounded up. */
@@ -93,7 +97,7 @@ enum { YILDREUZ_DOWN = 0, YILDREUZ_UP = 1 };
 /* The lists that the token carries. */
 enum { YILDREUZ_LOG = 0, YILDREUZ_TAPE = 1 };
 
-/* Why forward, back, go_to, back_to or forward_to ended. */
+/* Why forward, back, go_to, back_to, forward_to or go ended, or why the walk that look tells of would end. */
 enum {
     YILDREUZ_SPENT = 0,     /* every step asked for was made */
     YILDREUZ_ANSWER = 1,    /* down at an abstraction with an empty tape; value is its node */
@@ -138,7 +142,7 @@ typedef struct yildreuz_opening {
     uint32_t refusal;         /* its number, 7 or 8, or 0 for none */
 } yildreuz_opening;
 
-/* What forward, back, go_to, back_to and forward_to answer. */
+/* What forward, back, go_to, back_to, forward_to and go answer. */
 typedef struct yildreuz_outcome {
     yildreuz_session session; /* where the token stands now; the one given in a refusal and with YILDREUZ_NONE */
     uint32_t steps;           /* steps made; 0 in a refusal and with YILDREUZ_NONE */
@@ -157,6 +161,18 @@ typedef struct yildreuz_outcome {
                                  back carries what the step that it undoes carried: forward, and then back by the steps
                                  made, carry the same */
 } yildreuz_outcome;
+
+/* What look answers: the six numbers that forward by the count would answer beside the session, and what go is handed. */
+typedef struct yildreuz_foretold {
+    uint32_t steps;    /* steps that forward would make; 0 in a refusal */
+    uint32_t stop;     /* why it would end: YILDREUZ_SPENT to YILDREUZ_TAPE_FULL but YILDREUZ_START; or YILDREUZ_REFUSED */
+    uint32_t value;    /* the answer's node or the refusal's number; 0 with every other stop */
+    uint32_t value2;   /* 0: no stop has a second value */
+    uint32_t peak;     /* as in an outcome, over the states that forward would stand in; 0 in a refusal */
+    uint64_t carried;  /* as in an outcome, over the steps that forward would make; 0 in a refusal */
+    uint32_t position; /* the position and the count that it looked from; both 0 in a refusal */
+    uint32_t count;
+} yildreuz_foretold;
 
 /* What top answers: where the part lies in the slice that the caller lent for the chosen list. */
 typedef struct yildreuz_part {
@@ -257,6 +273,22 @@ yildreuz_outcome yildreuz_back_to(const uint16_t *table, size_t table_len, uint3
 yildreuz_outcome yildreuz_forward_to(const uint16_t *table, size_t table_len, uint32_t n, yildreuz_session session,
                                      uint32_t *log, size_t log_len, uint32_t *tape, size_t tape_len,
                                      uint32_t node, uint32_t direction, uint32_t count);
+
+/* Tells what yildreuz_forward by count would answer, before the steps are made: whether the log is long enough, where the
+   walk would stop, and what it would carry. The session stays the caller's, at the position where it is, and every word of log
+   and tape is again what it was: the call winds forward and back again in them.
+   Borrows, needs and leaves to the caller what yildreuz_forward does.
+   Refuses with 7 to 9, and then every word of log and tape stays. */
+yildreuz_foretold yildreuz_look(const uint16_t *table, size_t table_len, uint32_t n, yildreuz_session session,
+                                uint32_t *log, size_t log_len, uint32_t *tape, size_t tape_len, uint32_t count);
+
+/* Goes by the position and the count that a look handed out: forward by count, from a session at that position. Where
+   table, session, log and tape are those of the look, steps, stop, value, peak and carried are those that it told.
+   Borrows, needs and leaves to the caller what yildreuz_forward does, and refuses as it does, with 7 to 9, or with 15 where
+   the session is at another position; only the position is compared. */
+yildreuz_outcome yildreuz_go(const uint16_t *table, size_t table_len, uint32_t n, yildreuz_session session,
+                             uint32_t *log, size_t log_len, uint32_t *tape, size_t tape_len,
+                             uint32_t position, uint32_t count);
 
 /* Points at the newest entry of the log (which is YILDREUZ_LOG) or of the tape (YILDREUZ_TAPE): the words log[offset] to
    log[offset + len - 1], or those of tape, are that entry, its variable last and the entries inside it below. A bullet on

@@ -18,6 +18,8 @@ and used so, with host/ in PYTHONPATH:
     home = lib.back(table, n, out.session, log, tape, out.steps)
     there = lib.forward_to(table, n, home.session, log, tape, 2, yildreuz.UP, 100)    # there.stop FOUND, node 2 up at position 4
     none = lib.back_to(table, n, there.session, log, tape, 2, yildreuz.UP)    # none.stop NONE: it had not been there before
+    look = lib.look(table, n, there.session, log, tape, 100)    # what forward by 100 would give: look.steps 8, look.stop ANSWER, look.value 6; no word differs
+    went = lib.go(table, n, there.session, log, tape, look.position, look.count)    # and so it comes: went.steps 8, went.stop ANSWER, went.value 6
     text = bytearray(yildreuz.MOST_BYTES)
     written = lib.write(table, n, text)    # text[:written.len] is now rb'(\v2.v2 v2) (\v6.v6)'
     written = lib.write_numbers(table, n, text)    # and now rb'@ \ @ 0 0 \ 0', which lib.read_numbers reads
@@ -76,6 +78,17 @@ class Outcome(NamedTuple):
     carried: int
 
 
+class Look(NamedTuple):
+    steps: int
+    stop: int
+    value: int
+    value2: int
+    peak: int
+    carried: int
+    position: int
+    count: int
+
+
 class Part(NamedTuple):
     offset: int
     len: int
@@ -108,6 +121,7 @@ _Written = _struct(Written)
 _Session = _struct(Session)
 _Opening = _struct(Opening, session=_Session)
 _Outcome = _struct(Outcome, session=_Session, carried=ctypes.c_uint64)
+_Look = _struct(Look, carried=ctypes.c_uint64)
 _Part = _struct(Part)
 
 
@@ -177,6 +191,8 @@ class Library:
         self._go_to = self._call(lib.yildreuz_go_to, _Outcome, winding)
         self._back_to = self._call(lib.yildreuz_back_to, _Outcome, winding + [_WORD])
         self._forward_to = self._call(lib.yildreuz_forward_to, _Outcome, winding + [_WORD, _WORD])
+        self._look = self._call(lib.yildreuz_look, _Look, winding)
+        self._go = self._call(lib.yildreuz_go, _Outcome, winding + [_WORD])
         self._top = self._call(lib.yildreuz_top, _Part, winding + [_WORDS])
 
     @staticmethod
@@ -233,6 +249,14 @@ class Library:
         """Goes forward to the next later position on a node, DOWN or UP, or as forward by count does."""
         return self._wind(self._forward_to, table, n, session, log, tape, node, direction, count)
 
+    def look(self, table, n, session, log, tape, count):
+        """Tells what forward by count would give, and hands out position and count for go; log and tape are written and given back as they were."""
+        return self._wind(self._look, table, n, session, log, tape, count, shape=Look)
+
+    def go(self, table, n, session, log, tape, position, count):
+        """Goes forward by count, as forward does, from a session at this position; at another it is refused with 15."""
+        return self._wind(self._go, table, n, session, log, tape, position, count)
+
     def top(self, table, n, session, log, tape, which):
         """Points at the newest entry of LOG or TAPE: the part of that buffer in which it lies, and a refusal's number."""
         table, log, tape = _lent((_TABLE, table), (_LIST, log), (_LIST, tape))
@@ -256,7 +280,7 @@ class Library:
         return _told(Written, call(*_lent_text(text), *out))
 
     @staticmethod
-    def _wind(call, table, n, session, log, tape, *numbers):
+    def _wind(call, table, n, session, log, tape, *numbers, shape=Outcome):
         table, log, tape = _lent((_TABLE, table), (_LIST, log), (_LIST, tape))
         session = _Session(*map(_word, session))
-        return _told(Outcome, call(*table, _word(n), session, *log, *tape, *map(_word, numbers)))
+        return _told(shape, call(*table, _word(n), session, *log, *tape, *map(_word, numbers)))

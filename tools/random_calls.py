@@ -6,9 +6,9 @@
 Texts are closed terms, written with blanks and brackets that the grammar permits or in the number dialect, and damaged ones; tables, slices and sessions are
 those that the calls left, and damaged ones, tables also with another n, in rows where columns belong, and short of words, slices also cut to the words in use,
 sessions also with other turns; terms are written, and texts converted, into about as many bytes as the result has; the visits looked for are mostly of nodes
-that the token comes to. Every number of every answer is compared, every word or byte of what is lent, and those that stand before and after it. At the end
-every stop and every refusal must have come up, from each call that gives it, and so must a 9, a jam and a none that come of the turns alone. First, what the
-wrapper itself must refuse.
+that the token comes to; what a look hands out is at times gone by, at once or after other calls. Every number of every answer is compared, every word or byte
+of what is lent, and those that stand before and after it. At the end every stop and every refusal must have come up, from each call that gives it, and so must a
+9, a jam and a none that come of the turns alone, and a go whose results were foretold. First, what the wrapper itself must refuse.
 """
 import pathlib
 import random
@@ -43,6 +43,8 @@ DUE = {
 }
 DUE['go_to'] = (DUE['forward'] | DUE['back']) - {'start', 'far'}  # its count is used up where either could come
 DUE['forward_to'] = DUE['forward'] | {'found', 'refused 12', 'no chosen direction'}
+DUE['look'] = DUE['forward']
+DUE['go'] = DUE['forward'] | {'refused 15', 'foretold'}
 DUE['back_to'] = {'found', 'none', 'none by turns', 'refused 12', 'no chosen direction'} | NO_SESSION
 
 
@@ -239,6 +241,7 @@ MEANT = {
     'forward': lambda *given: reference.call(*given, False),
     'back': lambda *given: reference.call(*given, True),
     'go_to': reference.go_to,
+    'go': reference.go,
     'back_to': lambda *given: on_visit(reference.back_to, *given),
     'forward_to': lambda *given: on_visit(reference.forward_to, *given),
 }
@@ -249,16 +252,29 @@ def on_visit(meant, w, n, se, log, tape, node, direction, *count):
     return meant(w, n, se, log, tape, node if direction <= 1 else 0, 'du'[min(direction, 1)], *count)
 
 
+def no_direction(w, n, log, tape):
+    """The number of a session whose direction is none: 9, after 7 and 8."""
+    return 7 if reference.accepted(w, n) is None else 8 if max(len(log), len(tape)) > 16384 else 9
+
+
+def code_and_value(stop):
+    name, value = stop.split() if stop.split()[0] in ('answer', 'refused') else (stop, 0)
+    return CODES[name], int(value)
+
+
 def expected(name, w, n, s, log, tape, numbers):
     """The outcome; log and tape are lists, changed in place."""
-    if s.direction > 1:  # 9, after 7 and 8
-        refusal = 7 if reference.accepted(w, n) is None else 8 if max(len(log), len(tape)) > 16384 else 9
-        return yildreuz.Outcome(s, 0, CODES['refused'], refusal, 0, 0, 0)
+    if s.direction > 1:
+        return yildreuz.Outcome(s, 0, CODES['refused'], no_direction(w, n, log, tape), 0, 0, 0)
     se, steps, stop, peak, carried = MEANT[name](w, n, session_of(s), log, tape, *numbers)
-    if stop.split()[0] in ('answer', 'refused'):
-        stop, value = stop.split()
-        return yildreuz.Outcome(numbers_of(se), steps, CODES[stop], int(value), 0, peak, carried)
-    return yildreuz.Outcome(numbers_of(se), steps, CODES[stop], 0, 0, peak, carried)
+    return yildreuz.Outcome(numbers_of(se), steps, *code_and_value(stop), 0, peak, carried)
+
+
+def expected_look(w, n, s, log, tape, count):
+    if s.direction > 1:
+        return yildreuz.Look(0, CODES['refused'], no_direction(w, n, log, tape), 0, 0, 0, 0, 0)
+    steps, stop, peak, carried, position, handed = reference.look(w, n, session_of(s), log, tape, count)
+    return yildreuz.Look(steps, *code_and_value(stop), 0, peak, carried, position, handed)
 
 
 def expected_top(w, n, s, log, tape, which):
@@ -294,6 +310,7 @@ def jams_by_turns(w, n, s, log, tape):
 class Comparison:
     def __init__(self, lib, seed):
         self.lib, self.rng, self.seen = lib, random.Random(seed), Counter()
+        self.handed = 0, 0  # the position and the count that the last look handed out
 
     def note(self, call, what):
         self.seen[call, what] += 1
@@ -383,7 +400,9 @@ class Comparison:
 
     def winding(self, w, n, s, log, tape):
         """A call and its numbers. From a damaged position a search back may take long: back comes in its place."""
-        name = self.rng.choice(['forward', 'forward', 'back', 'go_to', 'back_to', 'forward_to'])
+        name = self.rng.choice(['forward', 'forward', 'back', 'go_to', 'back_to', 'forward_to', 'go'])
+        if name == 'go':
+            return name, self.rng.choice([self.handed, (s.position, self.number('forward', s.position))])
         if name == 'back_to' and s.position > FAR_BACK and s.direction <= 1:
             if reference.call(w, n, session_of(s), list(log), list(tape), FAR_BACK, True)[1] == FAR_BACK:
                 name = 'back'
@@ -394,9 +413,11 @@ class Comparison:
         return name, (self.number(name, s.position),)
 
     def wind(self, table, n, s, log, tape):
-        """One call, at times after a look at what is on top; its outcome."""
+        """One call, at times after a glance at what is on top, or a look; its outcome."""
         if self.rng.random() < 0.3:
             self.top(table, n, s, log, tape)
+        if self.rng.random() < 0.3:
+            self.look(table, n, s, log, tape)
         w, want_log, want_tape = table.now(), log.now(), tape.now()
         name, numbers = self.winding(w, n, s, want_log, want_tape)
         given = (name, w, n, s, list(want_log), list(want_tape), *numbers)
@@ -413,8 +434,22 @@ class Comparison:
         self.note(name, what)
         return got
 
+    def look(self, table, n, s, log, tape):
+        """One look; no lent word may differ. At times go follows at once, and its results are those foretold."""
+        count, w, words = self.number('forward', s.position), table.now(), [log.now(), tape.now()]
+        got, given = self.lib.look(table.part, n, s, log.part, tape.part, count), ('look', w, n, s, *words, count)
+        self.same((got, table.now(), [log.now(), tape.now()]), (expected_look(w, n, s, *words, count), w, words), given)
+        what, self.handed = yildreuz.STOP_NAMES[got.stop], (got.position, got.count)
+        self.note('look', refused(got.value, w, n, s, *words) if what == 'refused' else what)
+        if self.rng.random() < 0.3:
+            there, left = [Lent(self.rng, x) for x in words], [list(x) for x in words]
+            went = self.lib.go(table.part, n, s, *(x.part for x in there), *self.handed)
+            want = expected('go', w, n, s, *left, self.handed)
+            self.same((went, went[1:], table.now(), [x.now() for x in there]), (want, got[:6], w, left), ('foretold', *given))
+            self.note('go', 'foretold')
+
     def top(self, table, n, s, log, tape):
-        """One look at what is on top; no lent word may differ."""
+        """One glance at what is on top; no lent word may differ."""
         which = self.rng.choice([0, 0, 0, 1, 1, 1, 2, self.rng.getrandbits(32)])
         w, words = table.now(), [log.now(), tape.now()]
         got = self.lib.top(table.part, n, s, log.part, tape.part, which)
@@ -506,6 +541,10 @@ def refuses_misuse(lib):
         (OverflowError, lambda: lib.back_to(table, n, start, log, tape, -1, yildreuz.UP)),
         (OverflowError, lambda: lib.forward_to(table, n, start, log, tape, 1, yildreuz.GREATEST + 1, 0)),
         (OverflowError, lambda: lib.forward_to(table, n, start, log, tape, 1, yildreuz.UP, yildreuz.GREATEST + 1)),
+        (ValueError, lambda: lib.look(table, n, start, log, log, 1)),
+        (OverflowError, lambda: lib.look(table, n, start, log, tape, -1)),
+        (OverflowError, lambda: lib.go(table, n, start, log, tape, yildreuz.GREATEST + 1, 0)),
+        (OverflowError, lambda: lib.go(table, n, start, log, tape, 0, yildreuz.GREATEST + 1)),
         (ValueError, lambda: lib.top(table, n, start, log, memoryview(log)[1:], yildreuz.LOG)),
         (OverflowError, lambda: lib.top(table, n, start, log, tape, -1)),
         (TypeError, lambda: lib.write(table, n, bytes(10))),

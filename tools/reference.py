@@ -1,5 +1,5 @@
 #!/usr/bin/env python3
-"""An independent reading of document 01, and of changes 1 to 3 and 5 to 9 of document 02, from which the expected outputs of the programs `cases` and `winder` are worked out.
+"""An independent reading of document 01, and of changes 1 to 3 and 5 to 10 of document 02, from which the expected outputs of the programs `cases` and `winder` are worked out.
 
   tools/reference.py cases < SCRIPT   what `cases` must print for a script of cases, as crates/cases/stdin (script.py)
   tools/reference.py winder < TERM    what `winder` must print for a term
@@ -572,6 +572,20 @@ def forward_to(w, n, se, log, tape, node, dir, count):
         return se, 0, 'refused %d' % number, 0, 0
     there, made, stop, peak, carried = call(w, n, se, log, tape, steps or count, False)
     return there, made, 'found' if steps else stop, peak, carried
+
+
+def look(w, n, se, log, tape, count):
+    """The steps, the stop, the peak and the words carried of forward by the count, made on copies of the slices; the position and the count, both 0 in a refusal."""
+    _, steps, stop, peak, carried = call(w, n, se, list(log), list(tape), count, False)
+    position, count = (0, 0) if stop.startswith('refused') else (se.position, count)
+    return steps, stop, peak, carried, position, count
+
+
+def go(w, n, se, log, tape, position, count):
+    """Forward by the count; 15, where none of 7 to 9 applies, from another position than the session's."""
+    if given(w, n, se, log, tape)[2] == 0 and se.position != position:
+        return se, 0, 'refused 15', 0, 0
+    return call(w, n, se, log, tape, count, False)
 
 
 def top(w, n, se, log, tape, which):

@@ -1,8 +1,8 @@
 """The script of cases (crates/cases/stdin, which says its commands) on reference.py's reading of documents 01 and 02: what the program `cases` must print."""
 from itertools import groupby
 
-from reference import (GREATEST, START, Machine, Session, accepted, back_to, call, forward_to, go_to, in_columns, lay, open_session, read, read_numbers,
-                       to_names, to_numbers, top, wind, words, write, write_numbers)
+from reference import (GREATEST, START, Machine, Session, accepted, back_to, call, forward_to, go, go_to, in_columns, lay, look, open_session, read,
+                       read_numbers, to_names, to_numbers, top, wind, words, write, write_numbers)
 
 LONGEST_SCRIPT, LONGEST_TEXT, LONGEST_BUFFER, LONGEST_WRITTEN = 131071, 3001, 3010, 3000
 GREATEST_IN_TABLE = 65535
@@ -157,6 +157,13 @@ class Desk:
     def do_forward_to(self, node, dir, count):
         return self.on_slices(lambda *lent: self.wound(forward_to(*lent, node, 'u' if dir else 'd', count)))
 
+    def do_look(self, count):
+        """Both slices before it, what it tells, and both slices after it."""
+        return self.slices() + self.on_slices(lambda *lent: foretold(*look(*lent, count)))
+
+    def do_go(self, position, count):
+        return self.on_slices(lambda *lent: self.wound(go(*lent, position, count)))
+
     def do_walk(self, count):
         return self.on_slices(lambda *lent: self.walked(*lent, count))
 
@@ -174,7 +181,10 @@ class Desk:
         answer = made(self.table.part(), self.n, self.session, log, tape)
         self.log.back(log)
         self.tape.back(tape)
-        return answer + ' L%s T%s' % (self.log.shown(), self.tape.shown())
+        return answer + self.slices()
+
+    def slices(self):
+        return ' L%s T%s' % (self.log.shown(), self.tape.shown())
 
     def opened(self, table, n, _session, log, tape):
         self.session, number = open_session(table, n, log, tape)
@@ -207,6 +217,10 @@ def put_down(size, byte, write_it, *given):
         raise Wrong
     length, number, text = write_it(*given, size)
     return ' len %d refusal %d text %s rest%s' % (length, number, text.decode(), shown([byte] * (size - length)))
+
+
+def foretold(steps, stop, peak, carried, position, count):
+    return ' steps %d %s peak %d carried %d position %d count %d' % (steps, stop, peak, carried, position, count)
 
 
 def topped(_offset, part, number):
@@ -244,7 +258,7 @@ SHAPES = {
     'walk': (1, True), 'walk-back': (1, True), 'log-top': (0, True), 'tape-top': (0, True), 'write': (2, True), 'read-back': (0, True),
     'back-to': (2, True), 'forward-to': (3, True), 'read-numbers': (0, True), 'write-numbers': (2, True), 'read-numbers-back': (0, True),
     'to-numbers': (2, True), 'to-names': (2, True), 'to-numbers-read': (0, True), 'to-names-read': (0, True),
-    'numbers-and-back': (2, True), 'names-and-back': (2, True),
+    'numbers-and-back': (2, True), 'names-and-back': (2, True), 'look': (1, True), 'go': (2, True),
 }
 SLICES = ('table', 'log', 'tape')
 for slice in SLICES:

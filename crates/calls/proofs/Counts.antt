@@ -1,4 +1,4 @@
--- The kinds of call that go by a number of steps: forward and back by a count, and go-to.
+-- The kinds of call that go by a number of steps: forward and back by a count, go-to, and go.
 use mathlib.Core.Path.{_≡_, refl, ap, _∙_, subst}
 use mathlib.Core.Bool.{Bool, true, false, cond}
 use mathlib.Core.Option.{Option, none, some}
@@ -14,9 +14,11 @@ use Rattle.calls.specs.Session.{Given}
 use Rattle.calls.specs.Stops.{Way, forward, back, Moment, momentOf, beginning, momentAfter, Room, room}
 use Rattle.calls.specs.Winding.{Run, wind}
 use Rattle.calls.specs.Calls.{stateGiven, callNumber, wound, outcomeBy, windOf, goToOf}
-use Rattle.calls.specs.Allowed.{allowed}
-use Rattle.calls.specs.Moves.{by, go-to, wayOf, Course, course}
-use Rattle.calls.proofs.Runs.{Trail, trail-after, On, forward-on, forward-counted, Off, back-off}
+use Rattle.calls.specs.Allowed.{stopAfter, allowed}
+use Rattle.calls.specs.Looks.{goNumber, goOf}
+use Rattle.calls.specs.Moves.{by, go-to, go, wayOf, Course, course}
+use Rattle.calls.proofs.Unrefused.{go-none}
+use Rattle.calls.proofs.Runs.{Trail, trail-after, On, forward-on, forward-counted, forward-stops, Off, back-off}
 use Rattle.calls.proofs.Visits.{reaches}
 use Rattle.calls.proofs.MoveLaws.{moveNumber, shaped, OfWalks, Stood, Arrives, Takes, MoveLaws}
 
@@ -34,6 +36,10 @@ module _ (T : Table) (r : Room) (s₀ : State) (p : ℕ) (s : State) (h : Stood 
   module _ (c : ℕ) where
     pub counted : wind forward T r c now .steps ≡ allowed T s₀ r c p
     counted = forward-counted T r s₀ c now p (h .trail)
+
+    -- the stop that comes then
+    pub stops-there : stopAfter T s₀ r (c - allowed T s₀ r c p) (p + allowed T s₀ r c p) ≡ some (wind forward T r c now .stop)
+    stops-there = subst (λ k. stopAfter T s₀ r (c - k) (p + k) ≡ some (wind forward T r c now .stop)) counted (forward-stops T r s₀ c now p (h .trail))
 
     -- the states along a call forward
     pub forward-state : (j : ℕ) → j ≤ wind forward T r c now .steps → afterFrom T s₀ (p + j) ≡ some (wind forward T r j now .last .state)
@@ -100,6 +106,15 @@ go-to-shape q g = by-side (leb (g .session .position) q) refl
     by-side true e = rw e (count-shape forward (q - g .session .position) g ∙ same-walks (moveNumber (go-to q) g) (stateGiven g) g _ _ (λ s. rw e))
     by-side false e = rw e (count-shape back (g .session .position - q) g ∙ same-walks (moveNumber (go-to q) g) (stateGiven g) g _ _ (λ s. rw e))
 
+-- Go puts a test of its own, and then winds forward.
+go-shape : (q c : ℕ) (g : Given) → goOf g q c ≡ shaped (go q c) g
+unfolding goOf goNumber windOf
+go-shape q c g = by-number (goNumber q g) refl
+  where
+    by-number : (o : Option ℕ) → goNumber q g ≡ o → goOf g q c ≡ shaped (go q c) g
+    by-number (some k) e = rw e
+    by-number none e = rw (e, go-none q g e)
+
 -- what holds of the walks one way holds of go-to that way
 go-to-walks : (T : Table) (r : Room) (P : Run → Type 0) (x : Moment) (i j : ℕ) (d : Bool) → OfWalks (cond d forward back) T r P x → P (choose d (λ _. wind forward T r i x) (λ _. wind back T r j x))
 go-to-walks T r P x i j true w = w .walk i
@@ -119,4 +134,12 @@ go-to-laws q = record {
   shape = go-to-shape q;
   walks = λ T r P x w. go-to-walks T r P x (q - x .position) (x .position - q) (leb (x .position) q) w;
   takes = λ T r s₀ p s h. go-to-takes T r s₀ p s h q;
+}
+
+pub go-laws : (q c : ℕ) → MoveLaws (go q c)
+go-laws q c = record {
+  names = λ n p. (omega arith, tt);
+  shape = go-shape q c;
+  walks = λ T r P x w. w .walk c;
+  takes = λ T r s₀ p s h. count-takes T r s₀ p s h forward c;
 }

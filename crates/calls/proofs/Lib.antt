@@ -1,4 +1,4 @@
--- The theorems of the calls: which states are held, which call is refused, how the calls wind, what is on top, and the third demand.
+-- The theorems of the calls: which states are held, which call is refused, how the calls wind, what a look tells, what is on top, and the third demand.
 pub mod Order
 pub mod Held
 pub mod Unrefused
@@ -18,6 +18,8 @@ pub mod Counts
 pub mod Spots
 pub mod EachMove
 pub mod Answers
+pub mod Looks
+pub mod Foretold
 pub mod Top
 pub mod Weight
 pub mod Carried

@@ -52,8 +52,8 @@ module _ (T : Table) (r : Room) (s₀ : State) where
     pub unhindered : way ≡ back → Unhindered (run .stop)
     pub stop-says : c .says (run .stop)
 
--- Its own numbers come after those of every call.
 pub record MoveLaws (m : Move) : Type 1 where
+  -- its own numbers come after those of every call
   pub names : (n p : ℕ) → AllName (λ k. 9 < k) (ownTests m n p)
   pub shape : (g : Given) → outcomeOf m g ≡ shaped m g
   pub walks : (T : Table) (r : Room) (P : Run → Type 0) (x : Moment) → OfWalks (wayOf m (x .position)) T r P x → P (runOf m T r x)

@@ -8,17 +8,19 @@ use Rattle.term.specs.Table.{Table, tableIn}
 use Rattle.term.specs.Facts.{Facts}
 use Rattle.term.proofs.Facts.{accepted-facts}
 use Rattle.machine.specs.Machine.{State}
+use Rattle.machine.specs.Good.{Good}
 use Rattle.machine.specs.Carried.{carriedOver}
 use Rattle.calls.specs.Session.{Given}
 use Rattle.calls.specs.Stops.{forward, back, Moment, momentOf, Room, room}
 use Rattle.calls.specs.Winding.{Run, wind}
 use Rattle.calls.specs.Calls.{callNumber, Enters, refusedOutcome, wound, forwardOf}
 use Rattle.calls.specs.Moves.{by}
-use Rattle.calls.specs.Demand.{Standing}
+use Rattle.calls.specs.Demand.{Standing, leftBy, givenTo}
 use Rattle.calls.specs.Trips.{backBy, Restored}
 use Rattle.calls.proofs.Stops.{Fits}
+use Rattle.calls.proofs.Moments.{FewTurns}
 use Rattle.calls.proofs.Runs.{Trail, begun, trail-none, trail-few, trail-fits, trail-good, On, forward-on, Off, back-off}
-use Rattle.calls.proofs.Entering.{entered, laidDown, held-laid-down, enters-fits}
+use Rattle.calls.proofs.Entering.{entered, laidDown, held-laid-down, laid-enters, enters-fits}
 use Rattle.calls.proofs.Answers.{move-refused, moved, laid-moved}
 
 -- A refused call makes no step, and the call the other way is refused as it was.
@@ -59,6 +61,19 @@ module _ (g : Given) (c : ℕ) (s : State) (h : Enters g s) where
   off : Off T′ r here (out .steps) (out .steps) home
   off = back-off T′ r here facts (h .holds .good) fits (h .holds .turns-fit) (out .steps) trail (λ l. absurd (lt-irrefl (out .steps) l))
 
+  -- Where forward came to there is a state again.
+  there-fits : Fits r (out .last .state)
+  there-fits = trail-fits T′ r here fits trail
+
+  there-good : Good T′ (out .last .state)
+  there-good = trail-good T′ r here facts (h .holds .good) trail
+
+  there-few : FewTurns (out .last)
+  there-few = trail-few T′ r here (h .holds .turns-fit) trail
+
+  pub left-enters : Enters (givenTo (g .table) (g .n) (leftBy (forwardOf g c))) (out .last .state)
+  left-enters = rw (moved (by forward c) g s h refl) (laid-enters r (out .last) there-fits (g .table) (g .n) (h .accepted-table) there-good there-few (h .short-log) (h .short-tape))
+
   home-is : laidDown r (home .last) ≡ given
   home-is = ap (laidDown r) (sym came) ∙ sym (held-laid-down T′ given s (h .holds))
     where
@@ -67,8 +82,7 @@ module _ (g : Given) (c : ℕ) (s : State) (h : Enters g s) where
 
   back-home : backBy g (wound r out) ≡ wound r home
   back-home =
-      laid-moved (by back (out .steps)) r (out .last) (trail-fits T′ r here fits trail) (g .table) (g .n) (h .accepted-table) (trail-good T′ r here facts (h .holds .good) trail) (trail-few T′ r here (h .holds .turns-fit) trail)
-      (h .short-log) (h .short-tape) refl
+      laid-moved (by back (out .steps)) r (out .last) there-fits (g .table) (g .n) (h .accepted-table) there-good there-few (h .short-log) (h .short-tape) refl
 
   -- Each step taken back carries what it carried.
   same-sum : home .carried ≡ out .carried

@@ -85,7 +85,7 @@ module _ (T : Table) (r : Room) (m₀ : Moment) where
   trail-good F g (then {u = u} {m = m} t e f) = keeps-good T F (u .state) (m .state) (trail-good F g t) (next-forward T u m e .0)
 
   -- one step further, where no stop comes
-  trail-on : (c : ℕ) (m u : Moment) → stopBefore forward T r (suc c) m ≡ none → nextBy forward T m ≡ some u → {k : ℕ} → Trail T r m₀ k m → Trail T r m₀ (suc k) u
+  pub trail-on : (c : ℕ) (m u : Moment) → stopBefore forward T r (suc c) m ≡ none → nextBy forward T m ≡ some u → {k : ℕ} → Trail T r m₀ k m → Trail T r m₀ (suc k) u
   trail-on c m u e n t = then t n (fits-next forward T r (suc c) m e u n)
 
   -- A run forward from the end of k steps.

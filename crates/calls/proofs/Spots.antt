@@ -1,7 +1,6 @@
 -- The kinds of call to a spot: forward by a count to the next visit, and back to the last one.
 use mathlib.Core.Path.{_≡_, refl, sym, _∙_, subst}
 use mathlib.Core.Logic.{inl, inr}
-use mathlib.Core.Option.{some}
 use Prim.Native.Nat.{ℕ, _+_, _-_, _≤_, _<_, min}
 use native.Mathlib.Nat.{add-zero}
 use native.Mathlib.Omega.{arith}
@@ -12,16 +11,15 @@ use Rattle.calls.specs.Session.{Stop, Given}
 use Rattle.calls.specs.Stops.{forward, back, Moment, momentAfter, Room}
 use Rattle.calls.specs.Winding.{Run, ended, wind}
 use Rattle.calls.specs.Visits.{Spot, visitNumber, backToOf, forwardToOf, VisitAfter, foundBy, Sought, visited, unvisited}
-use Rattle.calls.specs.Allowed.{stopAfter, allowed}
+use Rattle.calls.specs.Allowed.{allowed}
 use Rattle.calls.specs.Visited.{VisitedAt, LastBefore, FirstAfter}
 use Rattle.calls.specs.Moves.{back-to, forward-to, course}
 use Rattle.calls.proofs.Stops.{IsStop}
 use Rattle.calls.proofs.Winds.{wind-is-stop}
-use Rattle.calls.proofs.Runs.{forward-stops}
 use Rattle.calls.proofs.Visits.{reaches, sought, sought-back, each-sought, found-not-none}
 use Rattle.calls.proofs.Visited.{stood-on, stands-on, last-found, last-none, next-found, next-none}
 use Rattle.calls.proofs.MoveLaws.{shaped, Stood, Arrives, Takes, MoveLaws}
-use Rattle.calls.proofs.Counts.{forward-not-back, counted, forward-state, off, forward-arrives, back-arrives, back-state}
+use Rattle.calls.proofs.Counts.{forward-not-back, counted, stops-there, forward-state, off, forward-arrives, back-arrives, back-state}
 
 module _ (T : Table) (r : Room) (s₀ : State) where
   -- the same walk, as found
@@ -85,7 +83,7 @@ module _ (T : Table) (r : Room) (s₀ : State) where
               found-first = λ x. absurd (subst IsStop x (wind-is-stop forward T r c now));
               else-unvisited = λ _. unseen;
               else-there = λ _. refl;
-              else-stops = λ _. subst (λ k. stopAfter T s₀ r (c - k) (p + k) ≡ some (wind forward T r c now .stop)) (counted T r s₀ p s h c) (forward-stops T r s₀ c now p (h .trail));
+              else-stops = λ _. stops-there T r s₀ p s h c;
             };
           }))
         where

@@ -1,4 +1,4 @@
--- The third demand: what stands after each call of a list is the plain machine's, and what the call answered. No kind of call is named here.
+-- The third demand: what stands after each call of a list is the plain machine's, and what the call answered. No kind of move is named here but forward by a count, which a look tells of.
 use mathlib.Core.Path.{_≡_, refl, sym, ap, subst}
 use mathlib.Core.Option.{Option, none, some}
 use mathlib.Core.List.{List, [], _∷_}
@@ -15,20 +15,24 @@ use Rattle.machine.specs.Good.{Good}
 use Rattle.machine.proofs.After.{start-good}
 use Rattle.machine.proofs.Turns.{turns-at-most}
 use Rattle.calls.specs.Session.{Outcome, Given}
-use Rattle.calls.specs.Stops.{Moment, beginning, startMoment, momentAfter, Room, room}
+use Rattle.calls.specs.Stops.{forward, Moment, beginning, startMoment, momentAfter, Room, room}
 use Rattle.calls.specs.Winding.{Run}
 use Rattle.calls.specs.Calls.{longest, openNumber, wound, openOf}
-use Rattle.calls.specs.Moves.{Move, outcomeOf, ownNumber, wayOf, runOf, course}
-use Rattle.calls.specs.Demand.{Call, own, other, AllPermitted, Standing, leftByOpen, leftBy, givenTo, positionBy, AsPlain, AsOwn, Demanded, ThirdDemand}
+use Rattle.calls.specs.Looks.{lookOf}
+use Rattle.calls.specs.Foretold.{Foretells}
+use Rattle.calls.specs.Moves.{Move, by, outcomeOf, ownNumber, wayOf, runOf, course}
+use Rattle.calls.specs.Demand.{Call, own, other, look, other-look, AllPermitted, Standing, leftByOpen, leftBy, leftByLook, givenTo, positionBy, AsPlain, AsOwn, Demanded, ThirdDemand}
 use Rattle.calls.proofs.Unrefused.{lent-unrefused}
 use Rattle.calls.proofs.Stops.{Fits}
 use Rattle.calls.proofs.Moments.{FewTurns}
 use Rattle.calls.proofs.Runs.{Unhindered, Trail, begun, trail-after, trail-fits, trail-good, trail-moment}
 use Rattle.calls.proofs.Visits.{Unrefused}
-use Rattle.calls.proofs.Entering.{laidDown}
+use Rattle.calls.proofs.Entering.{enters-unrefused, laidDown, laid-enters}
 use Rattle.calls.proofs.MoveLaws.{Takes}
 use Rattle.calls.proofs.EachMove.{laws}
 use Rattle.calls.proofs.Answers.{as-given, run-unrefused, refused-unchanged, laid-moved, laid-refused}
+use Rattle.calls.proofs.Looks.{look-tells, look-leaves, nothing-told, left-by-look}
+use Rattle.calls.proofs.Foretold.{foretells}
 
 -- A list of calls may begin with a good state that fits the slices.
 pub record Begins (w : List ℕ) (n : ℕ) (s₀ : State) (r : Room) : Type 0 where
@@ -89,7 +93,7 @@ module _ (w : List ℕ) (n : ℕ) (s₀ : State) (r : Room) where
     facts = accepted-facts w n (b .accepted-table)
 
     -- A call on what stands after p steps, with a slice that has the opened table.
-    module _ (m : Move) (u : List ℕ) (same : take (5 * n) u ≡ take (5 * n) w) (p : ℕ) (s : State) (t : Trail T r (beginning s₀) p (momentAfter T s₀ p s)) where
+    module _ (u : List ℕ) (same : take (5 * n) u ≡ take (5 * n) w) (p : ℕ) (s : State) (t : Trail T r (beginning s₀) p (momentAfter T s₀ p s)) where
       abbrev now : Moment
       now = momentAfter T s₀ p s
 
@@ -108,19 +112,29 @@ module _ (w : List ℕ) (n : ℕ) (s₀ : State) (r : Room) where
       few-now : FewTurns now
       few-now = turns-at-most T s₀ p
 
-      by-own : (o : Option ℕ) → ownNumber m (T .nodes) p ≡ o → Owned o m p (positionBy T s₀ r m p) given (outcomeOf m given)
-      by-own none e =
+      by-own : (m : Move) (o : Option ℕ) → ownNumber m (T .nodes) p ≡ o → Owned o m p (positionBy T s₀ r m p) given (outcomeOf m given)
+      by-own m none e =
           rw (laid-moved m r now fits-now u n accepted-now good-now few-now (b .short-log) (b .short-tape) (rw nodes-are at e), ignored u w n same, e)
           (wound-own m p given (runOf m T r now) (laws m .takes T r s₀ p s (record { facts = facts; good = b .good; fits = b .fits; trail = t })) (run-unrefused m T r now))
-      by-own (some k) e =
+      by-own m (some k) e =
           rw (laid-refused m r now fits-now u n accepted-now good-now few-now (b .short-log) (b .short-tape) k (rw nodes-are at e), e)
           (record { as-own = (refl, as-given k given); stands = record { state = s; trail = t; laid = refl } })
+
+      -- a look there
+      looks : (c : ℕ) → Foretells T s₀ r c p (lookOf given c)
+      looks c =
+          rw (
+            look-tells given c (enters-unrefused given s (laid-enters r now fits-now u n accepted-now good-now few-now (b .short-log) (b .short-tape))),
+            laid-moved (by forward c) r now fits-now u n accepted-now good-now few-now (b .short-log) (b .short-tape) refl,
+            ignored u w n same,
+          )
+          (foretells T r s₀ p s (record { facts = facts; good = b .good; fits = b .fits; trail = t }) c given refl)
 
     owned : (m : Move) (u : List ℕ) → take (5 * n) u ≡ take (5 * n) w → (p : ℕ) (st : Standing) → OnTrail p st
         → Owned (ownNumber m (T .nodes) p) m p (positionBy T s₀ r m p) (givenTo u n st) (outcomeOf m (givenTo u n st))
     owned m u same p st h =
         subst (λ x. Owned (ownNumber m (T .nodes) p) m p (positionBy T s₀ r m p) (givenTo u n x) (outcomeOf m (givenTo u n x))) (sym (h .laid))
-        (by-own m u same p (h .state) (h .trail) (ownNumber m (T .nodes) p) refl)
+        (by-own u same p (h .state) (h .trail) m (ownNumber m (T .nodes) p) refl)
 
     pub demanded : (cs : List Call) (p : ℕ) (st : Standing) → OnTrail p st → AllPermitted w n cs → Demanded T s₀ r n cs p st
     unfolding Demanded
@@ -129,6 +143,13 @@ module _ (w : List ℕ) (n : ℕ) (s₀ : State) (r : Room) where
         let o = owned m u (a .0) p st h in
         (as-plain p st h, o .as-own, demanded cs (positionBy T s₀ r m p) (leftBy (outcomeOf m (givenTo u n st))) (o .stands) (a .1))
     demanded (other m g ∷ cs) p st h a = (as-plain p st h, refused-unchanged m g (a .0 .0) (a .0 .1), demanded cs p st h (a .1))
+    demanded (look c u ∷ cs) p st h a =
+        let same : leftByLook st (lookOf (givenTo u n st) c) ≡ st = left-by-look st (lookOf (givenTo u n st) c) (look-leaves (givenTo u n st) c) in (
+          as-plain p st h,
+          subst (λ x. Foretells T s₀ r c p (lookOf (givenTo u n x) c)) (sym (h .laid)) (looks u (a .0) p (h .state) (h .trail) c),
+          demanded cs p (leftByLook st (lookOf (givenTo u n st) c)) (subst (λ x. OnTrail p x) (sym same) h) (a .1),
+        )
+    demanded (other-look c g ∷ cs) p st h a = (as-plain p st h, nothing-told g c (a .0 .0) (a .0 .1), demanded cs p st h (a .1))
 
 -- The list begins with what open left.
 module _ (w : List ℕ) (n : ℕ) (ls ts : List ℕ) (A : Accepted w n) (h : length ls ≤ longest) (k : length ts ≤ longest) where

@@ -1,20 +1,21 @@
 -- Which number refuses a call, test by test, and when none does.
 use mathlib.Core.Path.{_≡_, refl, sym, _∙_}
 use mathlib.Core.Logic.{_↔_, _⊎_, inl, inr}
-use mathlib.Core.Bool.{Bool, true, false, or-true}
+use mathlib.Core.Bool.{Bool, true, false, false≢true, or-true}
 use mathlib.Core.Option.{Option, none, some, Option·some-ne-none, Option·some-injective}
 use mathlib.Core.List.{List, [], _∷_, _++_}
 use Prim.Native.Nat.{ℕ, _≤_, _<_}
 use native.Mathlib.Omega.{arith}
 use lib.ListN.{length}
 use lib.Dec.{eqb}
-use borrow.Author.Tests.{eqb-true, ltb-true, eq-eqb, lt-ltb, le-ltb}
+use borrow.Author.Tests.{eqb-true, ltb-true, eq-eqb, ne-eqb, lt-ltb, le-ltb}
 use Rattle.term.specs.Choice.{_⇒_, first, isNone, ifSome}
 use Rattle.term.specs.Accepted.{accepted}
 use Rattle.machine.specs.Machine.{State}
 use Rattle.calls.specs.Session.{Given}
 use Rattle.calls.specs.Calls.{longest, tooLong, lentTests, lentNumber, stateGiven, callTests, callNumber}
 use Rattle.calls.specs.Visits.{offTerm, visitNumber}
+use Rattle.calls.specs.Looks.{elsewhere, goNumber}
 use Rattle.calls.proofs.Order.{first-of-both, first-names}
 
 -- 7 and 8, of what every call is lent
@@ -81,6 +82,13 @@ module _ (g : Given) (b : Bool) (k : ℕ) where
     own-passes : b ≡ false → lastly ≡ none
     own-passes h = rw (own-by, e, h)
 
+  own-none : lastly ≡ none → callNumber g ≡ none
+  own-none h = by-call (callNumber g) refl
+    where
+      by-call : (o : Option ℕ) → callNumber g ≡ o → callNumber g ≡ none
+      by-call (some j) e = absurd (Option·some-ne-none j (sym (own-as-call j e) ∙ h))
+      by-call none e = e
+
   -- It names k exactly where none of 7 to 9 applies and the test does.
   own-exactly : 9 < k → (lastly ≡ some k) ↔ ((callNumber g ≡ none) × (b ≡ true))
   own-exactly above = (λ h. by-call h (callNumber g) refl, λ h. own-applies (h .0) (h .1))
@@ -128,3 +136,35 @@ module _ (i : ℕ) (g : Given) where
   twelve-exactly =
       let exactly = own-exactly g (offTerm (g .n) i) 12 (omega arith) in
       (λ h. (exactly .0 h .0, off-term (exactly .0 h .1)), λ h. exactly .1 (h .0, named-off (h .1)))
+
+-- go: 15
+module _ (q : ℕ) (g : Given) where
+  pub go-as-call : (k : ℕ) → callNumber g ≡ some k → goNumber q g ≡ some k
+  unfolding goNumber
+  go-as-call = own-as-call g (elsewhere (g .session .position) q) 15
+
+  pub go-none : goNumber q g ≡ none → callNumber g ≡ none
+  unfolding goNumber
+  go-none = own-none g (elsewhere (g .session .position) q) 15
+
+  module _ (e : callNumber g ≡ none) where
+    pub go-fifteen : elsewhere (g .session .position) q ≡ true → goNumber q g ≡ some 15
+    unfolding goNumber
+    go-fifteen = own-applies g (elsewhere (g .session .position) q) 15 e
+
+    pub go-unrefused : elsewhere (g .session .position) q ≡ false → goNumber q g ≡ none
+    unfolding goNumber
+    go-unrefused = own-passes g (elsewhere (g .session .position) q) 15 e
+
+  -- "15, after 9, when the session's position is not the one handed out", and no other time.
+  named-elsewhere : (g .session .position ≡ q → ⊥) → elsewhere (g .session .position) q ≡ true
+  named-elsewhere h = rw (ne-eqb (g .session .position) q h)
+
+  not-here : elsewhere (g .session .position) q ≡ true → g .session .position ≡ q → ⊥
+  not-here h e = false≢true (rw (eq-eqb (g .session .position) q e) at h)
+
+  pub fifteen-exactly : (goNumber q g ≡ some 15) ↔ ((callNumber g ≡ none) × (g .session .position ≡ q → ⊥))
+  unfolding goNumber
+  fifteen-exactly =
+      let exactly = own-exactly g (elsewhere (g .session .position) q) 15 (omega arith) in
+      (λ h. (exactly .0 h .0, not-here (exactly .0 h .1)), λ h. exactly .1 (h .0, named-elsewhere (h .1)))

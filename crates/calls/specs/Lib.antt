@@ -8,8 +8,10 @@ pub mod Calls
 pub mod Walks
 pub mod Top
 pub mod Visits
+pub mod Looks
 pub mod Allowed
 pub mod Visited
+pub mod Foretold
 pub mod Moves
 pub mod Demand
 pub mod Trips

@@ -14,15 +14,17 @@ use Rattle.calls.specs.Stops.{Way, forward, back, Moment, Room}
 use Rattle.calls.specs.Winding.{Run, wind}
 use Rattle.calls.specs.Calls.{windOf, goToOf}
 use Rattle.calls.specs.Visits.{Spot, seek, seekBack, spotTests, backToOf, forwardToOf}
+use Rattle.calls.specs.Looks.{goTests, goOf}
 use Rattle.calls.specs.Allowed.{stopAfter, allowed}
 use Rattle.calls.specs.Visited.{VisitedAt, lastVisit, nextVisit, LastBefore, FirstAfter}
 
--- by a count forward or back; to a position; to a spot, back, and forward by a count
+-- by a count forward or back; to a position; to a spot, back, and forward by a count; and by the position and the count that a look handed out
 pub data Move : Type 0 where
   by : Way → ℕ → Move
   go-to : ℕ → Move
   back-to : Spot → Move
   forward-to : Spot → ℕ → Move
+  go : ℕ → ℕ → Move
 
 -- what each answers, whatever it is given
 abbrev pub outcomeOf : Move → Given → Outcome
@@ -30,6 +32,7 @@ outcomeOf (by way c) g = windOf way g c
 outcomeOf (go-to q) g = goToOf g q
 outcomeOf (back-to v) g = backToOf g v
 outcomeOf (forward-to v c) g = forwardToOf g v c
+outcomeOf (go q c) g = goOf g q c
 
 -- The tests that a call puts of its own after 7 to 9, to a term of n nodes and a session at position p.
 abbrev pub ownTests : Move → ℕ → ℕ → List (Test ℕ)
@@ -37,6 +40,7 @@ ownTests (by way c) n p = []
 ownTests (go-to q) n p = []
 ownTests (back-to v) n p = spotTests n (v .node)
 ownTests (forward-to v c) n p = spotTests n (v .node)
+ownTests (go q c) n p = goTests p q
 
 -- the number by which they refuse it
 abbrev pub ownNumber : Move → ℕ → ℕ → Option ℕ
@@ -48,6 +52,7 @@ wayOf (by way c) p = way
 wayOf (go-to q) p = cond (leb p q) forward back
 wayOf (back-to v) p = back
 wayOf (forward-to v c) p = forward
+wayOf (go q c) p = forward
 
 -- the walk that it makes from a moment
 abbrev pub runOf : Move → Table → Room → Moment → Run
@@ -55,6 +60,7 @@ runOf (by way c) T r m = wind way T r c m
 runOf (go-to q) T r m = choose (leb (m .position) q) (λ _. wind forward T r (q - m .position) m) (λ _. wind back T r (m .position - q) m)
 runOf (back-to v) T r m = seekBack T r v m
 runOf (forward-to v c) T r m = seek forward T r v c m
+runOf (go q c) T r m = wind forward T r c m
 
 -- What a call of the list that its own number does not refuse does at p: where it takes p, and what its stop says.
 pub record Course : Type 1 where
@@ -88,10 +94,11 @@ module _ (T : Table) (s₀ : State) (r : Room) where
     pub else-there : (x ≡ found → ⊥) → q ≡ p + allowed T s₀ r c p
     pub else-stops : (x ≡ found → ⊥) → stopAfter T s₀ r (c - allowed T s₀ r c p) (p + allowed T s₀ r c p) ≡ some x
 
-  -- A call back by c takes off min c p, and go-to is forward or back by the difference. Of the stop of a call by a count, and of go-to, the list says no more than of every call.
+  -- A call back by c takes off min c p, go-to is forward or back by the difference, and go is forward by its count. Of the stops of these the list says no more than of every call.
   abbrev pub course : Move → ℕ → Course
   course (by forward c) p = record { to = p + allowed T s₀ r c p; says = λ x. Unit }
   course (by back c) p = record { to = p - min c p; says = λ x. Unit }
   course (go-to q) p = record { to = choose (leb p q) (λ _. p + allowed T s₀ r (q - p) p) (λ _. p - min (p - q) p); says = λ x. Unit }
   course (back-to v) p = record { to = lastFound T s₀ v p; says = λ x. SaysBack T s₀ v p (lastFound T s₀ v p) x }
   course (forward-to v c) p = record { to = nextFound v c p; says = λ x. SaysForward v c p (nextFound v c p) x }
+  course (go q c) p = record { to = p + allowed T s₀ r c p; says = λ x. Unit }

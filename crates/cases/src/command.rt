@@ -51,7 +51,7 @@ pub(crate) enum Change {
     Nothing,
 }
 
-// A call on a session, with the node and the direction of the visit that it looks for, if it looks for one.
+// A call that winds, or open, with the node and the direction of the visit that it looks for, if it looks for one, or the position that it goes from, if it is handed one.
 pub(crate) enum SessionCall {
     Open,
     Forward,
@@ -59,6 +59,7 @@ pub(crate) enum SessionCall {
     GoTo,
     BackTo(u32, Dir),
     ForwardTo(u32, Dir),
+    Go(u32),
 }
 
 // The row of a line's word in a list of rows: a word, how many numbers follow it, and + where a text or a name may follow these. 99 is none.
@@ -91,7 +92,7 @@ pub(crate) fn row_of(line: &[u8]) -> usize {
           back-to 2 + forward-to 3 + \
           read-numbers 0 + write-numbers 2 + read-numbers-back 0 + \
           to-numbers 2 + to-names 2 + to-numbers-read 0 + to-names-read 0 + \
-          numbers-and-back 2 + names-and-back 2 +",
+          numbers-and-back 2 + names-and-back 2 + look 1 + go 2 +",
     )
 }
 
@@ -99,7 +100,7 @@ pub(crate) fn topic_of(row: usize) -> Topic {
     match row {
         4 | 28 | 31..=36 => Topic::OnText,
         5 => Topic::Accept,
-        6..=11 | 22 | 23 | 26 | 27 => Topic::OnSession,
+        6..=11 | 22 | 23 | 26 | 27 | 37 | 38 => Topic::OnSession,
         12..=15 => Topic::Table,
         16..=18 => Topic::Log,
         19..=21 => Topic::Tape,
@@ -159,16 +160,17 @@ pub(crate) fn call_of(line: &[u8], row: usize) -> SessionCall {
         9 => SessionCall::GoTo,
         26 => SessionCall::BackTo(node, dir),
         27 => SessionCall::ForwardTo(node, dir),
+        38 => SessionCall::Go(number_at(line, 1)),
         _ => SessionCall::Forward,
     }
 }
 
 // The count or the position of a call that has one.
 pub(crate) fn count_of(line: &[u8], row: usize) -> u32 {
-    if row == 27 {
-        number_at(line, 3)
-    } else {
-        number_at(line, 1)
+    match row {
+        27 => number_at(line, 3),
+        38 => number_at(line, 2),
+        _ => number_at(line, 1),
     }
 }
 
@@ -176,7 +178,7 @@ pub(crate) fn count_of(line: &[u8], row: usize) -> u32 {
 pub(crate) fn words_of(row: usize) -> usize {
     match row {
         6 | 22 | 23 => 1,
-        26 => 3,
+        26 | 38 => 3,
         27 => 4,
         _ => 2,
     }
@@ -189,6 +191,16 @@ pub(crate) fn is_open(row: usize) -> bool {
 // Whether a top entry is asked for.
 pub(crate) fn is_top(row: usize) -> bool {
     if row == 22 { true } else { row == 23 }
+}
+
+// Whether the call is a look ahead.
+pub(crate) fn is_look(row: usize) -> bool {
+    row == 37
+}
+
+// Whether the call leaves the session as it was.
+pub(crate) fn is_glance(row: usize) -> bool {
+    if is_look(row) { true } else { is_top(row) }
 }
 
 // Of log and tape, the one whose top entry is asked for.

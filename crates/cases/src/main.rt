@@ -13,6 +13,7 @@ use command::Plain;
 use command::Topic;
 use command::dialect_of;
 use command::dir_on;
+use command::is_look;
 use command::plain_of;
 use command::row_of;
 use command::topic_of;
@@ -74,7 +75,12 @@ fn accept_shown(line: &[u8], d: Desk, table: &[u16]) -> Desk {
     d
 }
 
-// Does what the line says of the session on what is lent, and shows the answer and both slices.
+fn show_slices(d: Desk, log: &[u32], tape: &[u32]) {
+    show_slice(b" L", log, d.log_size);
+    show_slice(b" T", tape, d.tape_size);
+}
+
+// Does what the line says of the session on what is lent, and shows the answer and both slices; of a look the slices before it too.
 fn on_session(
     line: &[u8],
     row: usize,
@@ -87,9 +93,11 @@ fn on_session(
     let l = least(d.log, log.len());
     let t = least(d.tape, tape.len());
     show_name(line, words_of(row));
+    if is_look(row) {
+        show_slices(d, &log[..], &tape[..]);
+    }
     let e = made(line, row, d, &table[0..k], &mut log[0..l], &mut tape[0..t]);
-    show_slice(b" L", &log[..], d.log_size);
-    show_slice(b" T", &tape[..], d.tape_size);
+    show_slices(d, &log[..], &tape[..]);
     show(b"\n");
     e
 }

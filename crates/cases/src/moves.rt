@@ -3,12 +3,14 @@ use crate::command::SessionCall;
 use crate::command::call_of;
 use crate::command::count_of;
 use crate::command::is_compared;
-use crate::command::is_top;
+use crate::command::is_glance;
+use crate::command::is_look;
 use crate::command::is_walk;
 use crate::command::which_of;
 use crate::desk::Desk;
 use crate::desk::same_session;
 use crate::desk::with_session;
+use crate::show::show_look;
 use crate::show::show_made;
 use crate::show::show_top;
 use session::Opening;
@@ -19,7 +21,9 @@ use session::back;
 use session::back_to;
 use session::forward;
 use session::forward_to;
+use session::go;
 use session::go_to;
+use session::look;
 use session::open;
 use session::top;
 
@@ -57,6 +61,7 @@ fn call_made(
         SessionCall::GoTo => go_to(table, n, s, log, tape, count),
         SessionCall::BackTo(node, dir) => back_to(table, n, s, log, tape, node, dir),
         SessionCall::ForwardTo(node, dir) => forward_to(table, n, s, log, tape, node, dir, count),
+        SessionCall::Go(position) => go(table, n, s, log, tape, position, count),
     }
 }
 
@@ -119,8 +124,23 @@ fn top_made<'a>(row: usize, d: Desk, table: &[u16], log: &'a [u32], tape: &'a [u
     show_top(refusal, part);
 }
 
+// Looks ahead, and shows what the look tells.
+fn look_made(line: &[u8], row: usize, d: Desk, table: &[u16], log: &mut [u32], tape: &mut [u32]) {
+    let s = d.session;
+    show_look(look(table, d.n, s, log, tape, count_of(line, row)));
+}
+
+// A call that leaves the session as it was.
+fn glance_made(line: &[u8], row: usize, d: Desk, table: &[u16], log: &mut [u32], tape: &mut [u32]) {
+    if is_look(row) {
+        look_made(line, row, d, table, log, tape);
+    } else {
+        top_made(row, d, table, &log[..], &tape[..]);
+    }
+}
+
 // Makes the call of a line; or, in a walk, one with 0 and as many with 1 as the count says. Shows the last answer, and how many states of a walk back agree.
-// Where a top entry is asked for the desk stays as it was.
+// A glance, a look or one at a top entry, leaves the desk as it was.
 pub(crate) fn made(
     line: &[u8],
     row: usize,
@@ -129,8 +149,8 @@ pub(crate) fn made(
     log: &mut [u32],
     tape: &mut [u32],
 ) -> Desk {
-    if is_top(row) {
-        top_made(row, desk, table, &log[..], &tape[..]);
+    if is_glance(row) {
+        glance_made(line, row, desk, table, log, tape);
         return desk;
     }
     let which = call_of(line, row);

@@ -5,6 +5,7 @@ use crate::words::after_parts;
 use crate::words::least;
 use crate::words::nth_part;
 use session::Dir;
+use session::Look;
 use session::Outcome;
 use session::Session;
 use session::Stop;
@@ -174,6 +175,22 @@ fn show_stop(x: Stop) {
     }
 }
 
+// What a walk came to, or would.
+fn show_results(steps: u32, stop: Stop, peak: u32, carried: u64) {
+    show_number(b" steps ", steps);
+    show_stop(stop);
+    show_number(b" peak ", peak);
+    show_sum(b" carried ", carried);
+}
+
+// What a look tells, and the position and the count that it hands out.
+pub(crate) fn show_look(l: Look) {
+    let x = l.stop;
+    show_results(l.steps, x, l.peak, l.carried);
+    show_number(b" position ", l.position);
+    show_number(b" count ", l.count);
+}
+
 // What the call of a row answered: the session after it, the steps, the stop, the peak and the words carried, or of open the session and the refusal; and of a walk back how many
 // states agreed.
 pub(crate) fn show_made(row: usize, o: Outcome, agreed: u32) {
@@ -184,10 +201,7 @@ pub(crate) fn show_made(row: usize, o: Outcome, agreed: u32) {
         show_number(b" refusal ", stop_number(x));
         return;
     }
-    show_number(b" steps ", o.steps);
-    show_stop(x);
-    show_number(b" peak ", o.peak);
-    show_sum(b" carried ", o.carried);
+    show_results(o.steps, x, o.peak, o.carried);
     if is_compared(row) {
         show_number(b" agreed ", agreed);
     }

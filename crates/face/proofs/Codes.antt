@@ -9,9 +9,10 @@ use Rattle.text.specs.Writing.{Write}
 use Rattle.machine.specs.Machine.{Dir, down, up}
 use Rattle.calls.specs.Session.{Session, Stop, spent, jam, far, start, logFull, tapeFull, found, answer, refused, Opening, Outcome, Given}
 use Rattle.calls.specs.Top.{Which, log, tape}
+use Rattle.calls.specs.Looks.{Look, lookOf}
 use Rattle.face.specs.declared.HostSession.{HostSession}
 use Rattle.face.specs.Numbers.{dirNumber, dirIn, sessionNumbers, sessionIn, stopCode, stopValue, whichNumber, whichIn}
-use Rattle.face.specs.Told.{readTold, writeTold, openTold, outcomeTold, called}
+use Rattle.face.specs.Told.{readTold, writeTold, openTold, outcomeTold, called, lookTold, lookCalled}
 
 -- What is told and read again is told apart.
 told-apart : {A B : Type 0} (tell : A → B) (read : B → Option A) → ((a : A) → read (tell a) ≡ some a) → (x y : A) → tell x ≡ tell y → x ≡ y
@@ -60,6 +61,11 @@ pub told-again : (call : Given → Outcome) (w : List ℕ) (n : ℕ) (se : Sessi
     → called call w n (sessionNumbers se) ls ts ≡ outcomeTold (call (record { table = w; n = n; session = se; log = ls; tape = ts }))
 unfolding called
 told-again call w n se ls ts = rw (session-told se)
+
+pub look-told-again : (w : List ℕ) (n : ℕ) (se : Session) (ls ts : List ℕ) (c : ℕ)
+    → lookCalled w n (sessionNumbers se) ls ts c ≡ lookTold (lookOf (record { table = w; n = n; session = se; log = ls; tape = ts }) c)
+unfolding lookCalled
+look-told-again w n se ls ts c = rw (session-told se)
 
 -- Stops: what a code and a value are read as, the codes counted down.
 abbrev orElse : Stop → (ℕ → Stop) → ℕ → Stop
@@ -121,6 +127,18 @@ outcomes-injective o p h = λ i. record {
   stop = codes-injective (o .stop) (p .stop) (λ j. h j .0 .stop) (λ j. h j .0 .value) i;
   peak = h i .0 .peak;
   carried = h i .0 .carried;
+  log = h i .1;
+  tape = h i .2;
+}
+
+pub looks-injective : (k l : Look) → lookTold k ≡ lookTold l → k ≡ l
+looks-injective k l h = λ i. record {
+  steps = h i .0 .steps;
+  stop = codes-injective (k .stop) (l .stop) (λ j. h j .0 .stop) (λ j. h j .0 .value) i;
+  peak = h i .0 .peak;
+  carried = h i .0 .carried;
+  position = h i .0 .position;
+  count = h i .0 .count;
   log = h i .1;
   tape = h i .2;
 }

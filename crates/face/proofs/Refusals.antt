@@ -10,13 +10,15 @@ use Rattle.term.proofs.Accepted.{accepts-all, accepts-only}
 use Rattle.calls.specs.Session.{Session, Stop, refused, Outcome, Given}
 use Rattle.calls.specs.Calls.{longest, lentNumber, callNumber, refusedOutcome}
 use Rattle.calls.specs.Visits.{visitNumber, backToOf, forwardToOf}
+use Rattle.calls.specs.Looks.{lookOf}
 use Rattle.calls.specs.Moves.{Move, back-to, forward-to, outcomeOf}
 use Rattle.calls.specs.Demand.{RefusedCall}
 use Rattle.calls.proofs.Unrefused.{lent-seven, lent-log-eight, lent-tape-eight, lent-unrefused, visit-twelve}
 use Rattle.calls.proofs.Answers.{own-refused, refused-unchanged}
+use Rattle.calls.proofs.Looks.{look-refused, look-refused-by}
 use Rattle.face.specs.declared.HostSession.{HostSession}
 use Rattle.face.specs.Numbers.{sessionNumbers, sessionIn, refusedCode, stopCode, stopValue, spotIn}
-use Rattle.face.specs.Told.{outcomeTold, refusedTold, noSessionNumber, calledOn, called}
+use Rattle.face.specs.Told.{outcomeTold, refusedTold, noSessionNumber, calledOn, called, lookTold, nothingTold, lookOn, lookCalled}
 use Rattle.face.proofs.Codes.{no-direction, numbers-told, codes-injective}
 
 -- A direction above 1, whatever the call.
@@ -92,3 +94,21 @@ module _ (m : Move) (w : List ℕ) (n : ℕ) (s : HostSession) (ls ts : List ℕ
       → called (λ g. outcomeOf m g) w n s ls ts ≡ refusedTold (called (λ g. outcomeOf m g) w n s ls ts .0 .value) s ls ts
   unfolding called
   refusal-gives-back e = on-session (sessionIn s) (numbers-told s) e
+
+-- A refused look, whatever the number: both slices as they were lent, and every number 0 but the stop and the refusal's.
+module _ (c : ℕ) (w : List ℕ) (n : ℕ) (s : HostSession) (ls ts : List ℕ) where
+  look-on-session : (o : Option Session) → lookOn o w n ls ts c .0 .stop ≡ refusedCode → (k : ℕ) × (lookOn o w n ls ts c ≡ nothingTold k ls ts)
+  look-on-session none e = (noSessionNumber w n ls ts, refl)
+  look-on-session (some se) e =
+      let g : Given = record { table = w; n = n; session = se; log = ls; tape = ts } in
+      let (k, is) = look-refused-by g c (stopValue (lookOf g c .stop)) (refusal-coded (lookOf g c .stop) e) in
+      (k, ap (λ l. lookTold l) (look-refused g c k is))
+
+  pub look-refused-told : lookCalled w n s ls ts c .0 .stop ≡ refusedCode → (k : ℕ) × (lookCalled w n s ls ts c ≡ nothingTold k ls ts)
+  unfolding lookCalled
+  look-refused-told e = look-on-session (sessionIn s) e
+
+  -- a direction above 1: 9, after 7 and 8
+  pub look-direction-refused : 1 < s .direction → lookCalled w n s ls ts c ≡ nothingTold (noSessionNumber w n ls ts) ls ts
+  unfolding lookCalled
+  look-direction-refused h = rw (no-direction (s .direction) h)

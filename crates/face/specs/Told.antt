@@ -8,11 +8,13 @@ use Rattle.text.specs.Writing.{Write}
 use Rattle.calls.specs.Session.{Session, Outcome, Opening, Given}
 use Rattle.calls.specs.Calls.{lentNumber, callNumber}
 use Rattle.calls.specs.Top.{Which, Shown, notShown, topOf}
+use Rattle.calls.specs.Looks.{Look, lookOf}
 use Rattle.face.specs.declared.HostReading.{HostReading}
 use Rattle.face.specs.declared.HostWritten.{HostWritten}
 use Rattle.face.specs.declared.HostSession.{HostSession}
 use Rattle.face.specs.declared.HostOpening.{HostOpening}
 use Rattle.face.specs.declared.HostOutcome.{HostOutcome}
+use Rattle.face.specs.declared.HostLook.{HostLook}
 use Rattle.face.specs.declared.HostPart.{HostPart}
 use Rattle.face.specs.Numbers.{sessionNumbers, sessionIn, refusedCode, stopCode, stopValue, whichIn}
 
@@ -52,6 +54,35 @@ calledOn none call w n s ls ts = refusedTold (noSessionNumber w n ls ts) s ls ts
 
 unfoldable pub called : (Given → Outcome) → List ℕ → ℕ → HostSession → List ℕ → List ℕ → HostOutcome × List ℕ × List ℕ
 called call w n s ls ts = calledOn (sessionIn s) call w n s ls ts
+
+-- A look, told as an outcome is; it has no session.
+abbrev pub lookTold : Look → HostLook × List ℕ × List ℕ
+lookTold l = (
+  record {
+    steps = l .steps;
+    stop = stopCode (l .stop);
+    value = stopValue (l .stop);
+    value2 = 0;
+    peak = l .peak;
+    carried = l .carried;
+    position = l .position;
+    count = l .count;
+  },
+  l .log,
+  l .tape,
+)
+
+-- A refused one tells and hands out nothing.
+abbrev pub nothingTold : ℕ → List ℕ → List ℕ → HostLook × List ℕ × List ℕ
+nothingTold k ls ts = (record { steps = 0; stop = refusedCode; value = k; value2 = 0; peak = 0; carried = 0; position = 0; count = 0 }, ls, ts)
+
+-- A look from the session that a host's numbers stand for.
+abbrev pub lookOn : Option Session → List ℕ → ℕ → List ℕ → List ℕ → ℕ → HostLook × List ℕ × List ℕ
+lookOn (some se) w n ls ts c = lookTold (lookOf (record { table = w; n = n; session = se; log = ls; tape = ts }) c)
+lookOn none w n ls ts c = nothingTold (noSessionNumber w n ls ts) ls ts
+
+unfoldable pub lookCalled : List ℕ → ℕ → HostSession → List ℕ → List ℕ → ℕ → HostLook × List ℕ × List ℕ
+lookCalled w n s ls ts c = lookOn (sessionIn s) w n ls ts c
 
 -- Of what top shows a host gets the place in its own slice; the number goes out through the pointer.
 abbrev pub topTold : Shown → HostPart × ℕ

@@ -46,6 +46,20 @@ pub struct HostOutcome {
     pub carried: u64,
 }
 
+// What a look answers, of the walk that it looked at: steps, stop, value, value2, peak and carried as in an outcome; and the position and the count that it looked from. But for the stop and
+// the value, which is the number, every number is 0 in a refusal.
+#[repr(C)]
+pub struct HostLook {
+    pub steps: u32,
+    pub stop: u32,
+    pub value: u32,
+    pub value2: u32,
+    pub peak: u32,
+    pub carried: u64,
+    pub position: u32,
+    pub count: u32,
+}
+
 // What top answers: where the part lies in the lent slice, the index of its first word and how many words it has. Both are 0 in a refusal.
 #[repr(C)]
 pub struct HostPart {

@@ -3,7 +3,7 @@ use mathlib.Core.Path.{_≡_, refl, sym, ap, _∙_}
 use mathlib.Core.List.{List}
 use Prim.Native.Nat.{ℕ}
 use Rattle.calls.specs.Session
-use Rattle.session.specs.Types.{dirMeant, whichMeant, sessionMeant, stopMeant, openingMeant, outcomeMeant}
+use Rattle.session.specs.Types.{dirMeant, whichMeant, sessionMeant, stopMeant, openingMeant, outcomeMeant, lookMeant}
 use Rattle.session.specs.declared.Dir.{Dir}
 use Rattle.session.specs.declared.Dir.the-variants.{Down, Up}
 use Rattle.session.specs.declared.Session as Declared
@@ -13,6 +13,7 @@ use Rattle.session.specs.declared.Which.{Which}
 use Rattle.session.specs.declared.Which.the-variants.{Log, Tape}
 use Rattle.session.specs.declared.Opening.{Opening}
 use Rattle.session.specs.declared.Outcome.{Outcome}
+use Rattle.session.specs.declared.looks.Look.{Look}
 
 pub dir-once : (d e : Dir) → dirMeant d ≡ dirMeant e → d ≡ e
 dir-once Down Down h = refl
@@ -70,3 +71,8 @@ outcome-once o u ls ls′ ts ts′ e =
     let s = session-once (o .session) (u .session) (ap (λ x. x .session) e) in
     let x = stop-once (o .stop) (u .stop) (ap (λ y. y .stop) e) in
     (λ i. record { session = s i; steps = e i .steps; stop = x i; peak = e i .peak; carried = e i .carried }, ap (λ y. y .log) e, ap (λ y. y .tape) e)
+
+pub look-once : (k l : Look) (ls ls′ ts ts′ : List ℕ) → lookMeant k ls ts ≡ lookMeant l ls′ ts′ → (k ≡ l) × (ls ≡ ls′) × (ts ≡ ts′)
+look-once k l ls ls′ ts ts′ e =
+    let x = stop-once (k .stop) (l .stop) (ap (λ y. y .stop) e) in
+    (λ i. record { steps = e i .steps; stop = x i; peak = e i .peak; carried = e i .carried; position = e i .position; count = e i .count }, ap (λ y. y .log) e, ap (λ y. y .tape) e)

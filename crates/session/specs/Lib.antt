@@ -8,3 +8,4 @@ pub mod Rules
 pub mod Weight
 pub mod Passes
 pub mod Visits
+pub mod Looks

@@ -7,6 +7,7 @@ use Rattle.machine.specs.Machine
 use Rattle.calls.specs.Session
 use Rattle.calls.specs.Stops
 use Rattle.calls.specs.Top
+use Rattle.calls.specs.Looks
 use Rattle.calls.specs.Calls.{refusedOutcome}
 use Rattle.session.specs.declared.Dir.{Dir}
 use Rattle.session.specs.declared.Dir.the-variants.{Down, Up}
@@ -17,6 +18,7 @@ use Rattle.session.specs.declared.Which.{Which}
 use Rattle.session.specs.declared.Which.the-variants.{Log, Tape}
 use Rattle.session.specs.declared.Opening.{Opening}
 use Rattle.session.specs.declared.Outcome.{Outcome}
+use Rattle.session.specs.declared.looks.Look.{Look}
 use Rattle.session.specs.declared.winding.Way.{Way}
 use Rattle.session.specs.declared.winding.Way.the-variants.{Forward, Back}
 
@@ -65,6 +67,18 @@ outcomeMeant o ls ts = record {
   stop = stopMeant (o .stop);
   peak = o .peak;
   carried = o .carried;
+  log = ls;
+  tape = ts;
+}
+
+abbrev pub lookMeant : Look → List ℕ → List ℕ → Looks.Look
+lookMeant l ls ts = record {
+  steps = l .steps;
+  stop = stopMeant (l .stop);
+  peak = l .peak;
+  carried = l .carried;
+  position = l .position;
+  count = l .count;
   log = ls;
   tape = ts;
 }

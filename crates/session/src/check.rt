@@ -1,4 +1,4 @@
-// The numbers 7, 8, 9 and 12, in their order of test.
+// The numbers 7, 8, 9, 12 and 15, in their order of test.
 ghost use mathlib.Core.Path.{_≡_};
 ghost use mathlib.Core.Bool.{true, false, not};
 ghost use Prim.Native.Nat.{_^_, _<_, _≤_};
@@ -10,6 +10,7 @@ ghost use Rattle.machine.specs.Slice.{allZero};
 ghost use Rattle.calls.specs.Held.{stateIn};
 ghost use Rattle.session.specs.Counting.{countEntry, isBullet, haveWords, haveLog, haveTape, CountIs};
 ghost use Rattle.calls.specs.Calls.{lentNumber, callNumber};
+ghost use Rattle.calls.specs.Looks.{goNumber};
 ghost use Rattle.calls.specs.Visits.{visitNumber};
 ghost use Rattle.session.specs.Types.{sessionMeant, lent, numberMeant};
 use crate::Session;
@@ -195,4 +196,23 @@ pub(crate) fn visit_number(
         return 12;
     }
     if node > n { 12 } else { 0 }
+}
+
+// The number that refuses go, or 0: after 7 to 9, a session that is not at the position.
+pub(crate) fn go_number(
+    table: &[u16],
+    n: u32,
+    session: Session,
+    log: &[u32],
+    tape: &[u32],
+    position: u32,
+) -> u32
+    ensures { λ r. ⌜ r ≡ numberMeant (goNumber position (lent (now (table .entry)) n session (now (log .entry)) (now (tape .entry)))) ⌝ }
+{
+    let here = session.position;
+    let earlier = call_number(table, n, session, log, tape);
+    if earlier != 0 {
+        return earlier;
+    }
+    if here == position { 0 } else { 15 }
 }

@@ -1,15 +1,17 @@
-// Sessions on a term: open, forward, back and go-to (document 01, "A session and its calls"), the top entry of log or tape (document 02, change 1), and back and forward to a
-// chosen node in a chosen direction (document 02, change 5).
+// Sessions on a term: open, forward, back and go-to (document 01, "A session and its calls"), the top entry of log or tape (document 02, change 1), back and forward to a
+// chosen node in a chosen direction (document 02, change 5), and a look ahead and the way by what it handed out (document 02, change 10).
 ghost use mathlib.Core.Path.{_≡_};
 ghost use lib.ListN.{length, replicate};
 ghost use Rattle.calls.specs.Calls.{openOf, windOf, forwardOf, backOf, goToOf};
+ghost use Rattle.calls.specs.Looks.{lookOf, goOf};
 ghost use Rattle.calls.specs.Top.{asTold, topOf, seen};
 ghost use Rattle.calls.specs.Visits.{spot, backToOf, forwardToOf};
-ghost use Rattle.session.specs.Types.{openingMeant, outcomeMeant, wayMeant, whichMeant, dirMeant, lent, Refuses, wordPtr};
+ghost use Rattle.session.specs.Types.{openingMeant, outcomeMeant, lookMeant, wayMeant, whichMeant, dirMeant, lent, Refuses, wordPtr};
 
 mod check;
 mod choice;
 mod extent;
+mod looks;
 mod mover;
 mod part;
 mod rules;
@@ -18,7 +20,11 @@ mod weight;
 mod winding;
 
 use check::call_number;
+use check::go_number;
 use check::visit_number;
+pub use looks::Look;
+use looks::look_ahead;
+use looks::refused_look;
 use part::top_place;
 use visits::seek_back;
 use winding::Way;
@@ -244,6 +250,45 @@ pub fn forward_to(
         return refused_outcome(session, number);
     }
     seek(table, n, session, log, tape, Way::Forward, count, node, dir)
+}
+
+// A look: what forward by the count would give, and the position and the count that it looked from. The session is handed over by value and not answered, and every word is as given.
+pub fn look(
+    table: &[u16],
+    n: u32,
+    session: Session,
+    log: &mut [u32],
+    tape: &mut [u32],
+    count: u32,
+) -> Look
+    ensures { λ r. ⌜ lookMeant r (now (log .exit)) (now (tape .exit))
+        ≡ lookOf (lent (now (table .entry)) n session (now (log .entry)) (now (tape .entry))) count ⌝ }
+{
+    let number = call_number(table, n, session, &log[..], &tape[..]);
+    if number != 0 {
+        return refused_look(number);
+    }
+    look_ahead(table, n, session, log, tape, count)
+}
+
+// By the position and the count that a look handed out: forward by the count, where the session is at the position, and else refused.
+pub fn go(
+    table: &[u16],
+    n: u32,
+    session: Session,
+    log: &mut [u32],
+    tape: &mut [u32],
+    position: u32,
+    count: u32,
+) -> Outcome
+    ensures { λ r. ⌜ outcomeMeant r (now (log .exit)) (now (tape .exit))
+        ≡ goOf (lent (now (table .entry)) n session (now (log .entry)) (now (tape .entry))) position count ⌝ }
+{
+    let number = go_number(table, n, session, &log[..], &tape[..], position);
+    if number != 0 {
+        return refused_outcome(session, number);
+    }
+    wind(table, n, session, log, tape, Way::Forward, count)
 }
 
 // The top entry of log or tape, or the bullet on top of the tape, as that part of the lent slice itself, its top word last; empty where it is refused. The number,

@@ -8,9 +8,9 @@ use Rattle.calls.specs.Session.{Session, Outcome}
 use Rattle.calls.specs.Stops.{forward, back}
 use Rattle.calls.specs.Visits.{spot}
 use Rattle.calls.specs.Moves
-use Rattle.calls.specs.Moves.{by, go-to, back-to, forward-to}
+use Rattle.calls.specs.Moves.{by, go-to, back-to, forward-to, go}
 use Rattle.yildreuz.specs.declared.Move.{Move}
-use Rattle.yildreuz.specs.declared.Move.the-variants.{Forward, Back, GoTo, BackTo, ForwardTo}
+use Rattle.yildreuz.specs.declared.Move.the-variants.{Forward, Back, GoTo, BackTo, ForwardTo, Go}
 use Rattle.face.specs.declared.HostSession.{HostSession}
 use Rattle.face.specs.declared.HostOutcome.{HostOutcome}
 use Rattle.face.specs.Numbers.{sessionNumbers, refusedCode, stopCode}
@@ -24,6 +24,7 @@ moveMeant (Back c) = by back c
 moveMeant (GoTo q) = go-to q
 moveMeant (BackTo i d) = back-to (spot i (dirMeant d))
 moveMeant (ForwardTo i d c) = forward-to (spot i (dirMeant d)) c
+moveMeant (Go q c) = go q c
 
 -- Numbers without a direction are taken to stand at node 0, which no table has, so that the call itself finds 7, 8 or 9.
 abbrev pub madeWith : HostSession → Session

@@ -6,16 +6,18 @@ ghost use Rattle.text.specs.Reading.{readOf};
 ghost use Rattle.text.specs.Writing.{writeOf, writeNumbersOf};
 ghost use Rattle.calls.specs.Calls.{openOf, forwardOf, backOf, goToOf};
 ghost use Rattle.calls.specs.Visits.{backToOf, forwardToOf};
+ghost use Rattle.calls.specs.Looks.{goOf};
 ghost use Rattle.calls.specs.Moves.{outcomeOf};
 ghost use Rattle.session.specs.Types.{outcomeMeant, lent};
 ghost use Rattle.face.specs.Numbers.{spotIn};
-ghost use Rattle.face.specs.Told.{readTold, writeTold, openTold, called, topCalled};
+ghost use Rattle.face.specs.Told.{readTold, writeTold, openTold, called, lookCalled, topCalled};
 ghost use Rattle.yildreuz.specs.Given.{moveMeant};
 
 mod numbers;
 mod parts;
 mod texts;
 
+use face::HostLook;
 use face::HostOpening;
 use face::HostOutcome;
 use face::HostPart;
@@ -25,6 +27,7 @@ use face::HostWritten;
 use numbers::chosen_dir;
 use numbers::chosen_node;
 use numbers::given_back;
+use numbers::look_told;
 use numbers::made_with;
 use numbers::session_numbers;
 use parts::list_end;
@@ -110,6 +113,7 @@ enum Move {
     GoTo(u32),
     BackTo(u32, Dir),
     ForwardTo(u32, Dir, u32),
+    Go(u32, u32),
 }
 
 // The call itself.
@@ -132,6 +136,7 @@ fn call_made(
         Move::ForwardTo(node, dir, count) => {
             session::forward_to(table, n, session, log, tape, node, dir, count)
         }
+        Move::Go(position, count) => session::go(table, n, session, log, tape, position, count),
     }
 }
 
@@ -260,4 +265,39 @@ pub extern "C" fn yildreuz_top<'a>(
     let told = number_told(which, number);
     *refusal = told;
     part_told(told, list_end(s, list), size)
+}
+
+// What forward by a count would give; every word as given.
+#[no_mangle]
+pub extern "C" fn yildreuz_look(
+    table: &[u16],
+    n: u32,
+    session: HostSession,
+    log: &mut [u32],
+    tape: &mut [u32],
+    count: u32,
+) -> HostLook
+    ensures { λ r. ⌜ (r, now (log .exit), now (tape .exit))
+        ≡ lookCalled (now (table .entry)) n session (now (log .entry)) (now (tape .entry)) count ⌝ }
+{
+    let s = made_with(session);
+    let l = session::look(table, n, s, log, tape, count);
+    look_told(l)
+}
+
+// By the position and the count that a look handed out.
+#[no_mangle]
+pub extern "C" fn yildreuz_go(
+    table: &[u16],
+    n: u32,
+    session: HostSession,
+    log: &mut [u32],
+    tape: &mut [u32],
+    position: u32,
+    count: u32,
+) -> HostOutcome
+    ensures { λ r. ⌜ (r, now (log .exit), now (tape .exit))
+        ≡ called (λ g. goOf g position count) (now (table .entry)) n session (now (log .entry)) (now (tape .entry)) ⌝ }
+{
+    call(table, n, session, log, tape, Move::Go(position, count))
 }

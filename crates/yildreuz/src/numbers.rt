@@ -1,13 +1,16 @@
-// Directions, sessions, stops and outcomes in numbers, and a host's numbers as a session, and as a node in a direction.
+// Directions, sessions, stops, outcomes and looks in numbers, and a host's numbers as a session, and as a node in a direction.
 ghost use mathlib.Core.Path.{_≡_};
 ghost use mathlib.Core.List.{List};
 ghost use Prim.Native.Nat.{ℕ};
-ghost use Rattle.session.specs.Types.{dirMeant, sessionMeant, stopMeant, outcomeMeant};
+ghost use Rattle.session.specs.Types.{dirMeant, sessionMeant, stopMeant, outcomeMeant, lookMeant};
 ghost use Rattle.face.specs.Numbers.{dirNumber, sessionNumbers, stopCode, stopValue, spotIn};
+ghost use Rattle.face.specs.Told.{lookTold};
 ghost use Rattle.yildreuz.specs.Given.{madeWith, keptSession, givenBack};
+use face::HostLook;
 use face::HostOutcome;
 use face::HostSession;
 use session::Dir;
+use session::Look;
 use session::Outcome;
 use session::Session;
 use session::Stop;
@@ -122,5 +125,21 @@ pub(crate) fn given_back(given: HostSession, o: Outcome) -> HostOutcome
         value2: 0,
         peak: o.peak,
         carried: o.carried,
+    }
+}
+
+pub(crate) fn look_told(l: Look) -> HostLook
+    ensures { λ r. ⌜ ((ls ts : List ℕ) → (r, ls, ts) ≡ lookTold (lookMeant l ls ts)) ⌝ }
+{
+    let stop = l.stop;
+    HostLook {
+        steps: l.steps,
+        stop: stop_code(stop),
+        value: stop_value(stop),
+        value2: 0,
+        peak: l.peak,
+        carried: l.carried,
+        position: l.position,
+        count: l.count,
     }
 }

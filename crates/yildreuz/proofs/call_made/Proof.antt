@@ -33,6 +33,12 @@ enum-known-m-5 c = search needs
 forward-to-requires : tie.Need-forward-to-requires
 forward-to-requires c κs = search needs
 
+enum-known-m-6 : tie.Need-enum-known-m-6
+enum-known-m-6 c = search needs
+
+go-requires : tie.Need-go-requires
+go-requires c κs = search needs
+
 same-length : tie.Need-same-length
 same-length c = search needs
 
@@ -78,6 +84,15 @@ same-length-10 c = search needs
 returns-5 : tie.Need-returns-5
 returns-5 c = let made = c .before .before .before .before in rw (made .before .before .before .before .m5 .given .1) (made .forward-to .ensures)
 
+same-length-11 : tie.Need-same-length-11
+same-length-11 c = search needs
+
+same-length-12 : tie.Need-same-length-12
+same-length-12 c = search needs
+
+returns-6 : tie.Need-returns-6
+returns-6 c = let made = c .before .before .before .before in rw (made .before .before .before .before .m6 .given .1) (made .go .ensures)
+
 pub call-made-spec : {M : Type 1} → statement M
 call-made-spec =
     tie.close
@@ -92,6 +107,8 @@ call-made-spec =
     back-to-requires
     enum-known-m-5
     forward-to-requires
+    enum-known-m-6
+    go-requires
     same-length
     same-length-2
     returns
@@ -106,4 +123,7 @@ call-made-spec =
     returns-4
     same-length-9
     same-length-10
-    returns-5)
+    returns-5
+    same-length-11
+    same-length-12
+    returns-6)

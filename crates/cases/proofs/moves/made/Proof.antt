@@ -11,11 +11,11 @@ Inv-loop line row desk table log₀ tape₀ which count walks compared n left₀
 abbrev μ-loop : tie.MeasureT-loop
 μ-loop line row desk table log₀ tape₀ which count walks compared n left₀ steps₀ o₀ agreed₀ log tape left steps o agreed = left
 
-is-top-requires : tie.Need-is-top-requires Inv-loop μ-loop
-is-top-requires c κs = search needs
+is-glance-requires : tie.Need-is-glance-requires Inv-loop μ-loop
+is-glance-requires c κs = search needs
 
-top-made-requires : tie.Need-top-made-requires Inv-loop μ-loop
-top-made-requires c κs = search needs
+glance-made-requires : tie.Need-glance-made-requires Inv-loop μ-loop
+glance-made-requires c κs = search needs
 
 same-length : tie.Need-same-length Inv-loop μ-loop
 same-length c = search needs
@@ -89,8 +89,8 @@ made-spec =
     (tie.spec
     Inv-loop
     μ-loop
-    is-top-requires
-    top-made-requires
+    is-glance-requires
+    glance-made-requires
     same-length
     same-length-2
     returns
