@@ -275,8 +275,8 @@ yildreuz_outcome yildreuz_forward_to(const uint16_t *table, size_t table_len, ui
                                      uint32_t node, uint32_t direction, uint32_t count);
 
 /* Tells what yildreuz_forward by count would answer, before the steps are made: whether the log is long enough, where the
-   walk would stop, and what it would carry. The session stays the caller's, at the position where it is, and every word of log
-   and tape is again what it was: the call winds forward and back again in them.
+   walk would stop, and what it would carry. The session stays the caller's, at the position where it is, and every word of
+   log and tape is again what it was: the call winds forward and back again in them.
    Borrows, needs and leaves to the caller what yildreuz_forward does.
    Refuses with 7 to 9, and then every word of log and tape stays. */
 yildreuz_foretold yildreuz_look(const uint16_t *table, size_t table_len, uint32_t n, yildreuz_session session,
