@@ -1,3 +1,4 @@
 pub mod Numbers
 pub mod Told
+pub mod Foretold
 pub mod HostDemand
