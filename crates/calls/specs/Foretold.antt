@@ -1,7 +1,7 @@
 -- What a look tells in a list of the third demand: the steps, the stop, the peak and the sum of forward by its count from a position (document 02, change 10), on the plain machine alone.
 use mathlib.Core.Path.{_≡_}
 use mathlib.Core.Option.{some}
-use Prim.Native.Nat.{ℕ, zero, suc, _+_, _-_, max}
+use Prim.Native.Nat.{ℕ, zero, suc, _+_, _-_, _≤_, max}
 use Rattle.term.specs.Choice.{ifSome}
 use Rattle.term.specs.Table.{Table}
 use Rattle.machine.specs.Machine.{State, afterFrom}
@@ -22,6 +22,11 @@ module _ (T : Table) (s₀ : State) where
   unfoldable pub peakFrom : ℕ → ℕ → ℕ
   peakFrom zero p = weightAfter p
   peakFrom (suc k) p = max (weightAfter p) (peakFrom k (suc p))
+
+  -- The same in words (`peak-from-greatest`, proofs/Foretold.antt): none of these states weighs more than x, and one of them weighs x.
+  pub record GreatestFrom (k p x : ℕ) : Type 0 where
+    pub covered : (j : ℕ) → j ≤ k → weightAfter (p + j) ≤ x
+    pub reached : (j : ℕ) × (j ≤ k) × (weightAfter (p + j) ≡ x)
 
 -- The same with slices of the lengths in r.
 module _ (T : Table) (s₀ : State) (r : Room) where
