@@ -16,9 +16,9 @@
    - every pointer is aligned for its type, and none is NULL, even where its length is 0;
    - a slice or word that a call writes overlaps nothing else that the call is lent.
 
-   What a refusal leaves. No lent byte or word differs but the one through which top tells the number, and where a session
-   is answered to one that was given, it is that one, number for number. Every other number of the answer is 0, but for the
-   refusal's own and, in the answers of the calls that wind and of look, the stop YILDREUZ_REFUSED:
+   What a refusal leaves. No lent byte or word differs but the one through which top tells the number, and a call that takes
+   a session and answers one gives back the one it took, number for number. Every other number of the answer is 0, but for
+   the refusal's own and, in the answers of the calls that wind and of look, the stop YILDREUZ_REFUSED:
      1  the text has more than 3,000 bytes            6  the table has fewer than 5 words for each node of the term
      2  it has a byte that no term has                7  n is 0 or over 3,000, the table has fewer than 5 x n words,
      3  it has a name over 8 bytes, or one that          or no closed term has it

@@ -5,30 +5,24 @@ use Prim.Native.Nat.{ℕ}
 use Rattle.term.specs.Table.{tableIn}
 use Rattle.machine.specs.Machine.{State}
 use Rattle.calls.specs.Session.{Given}
-use Rattle.calls.specs.Stops.{forward, momentOf, room}
+use Rattle.calls.specs.Stops.{forward, back, momentOf, room}
 use Rattle.calls.specs.Winding.{wind}
-use Rattle.calls.specs.Calls.{Enters, windOf, forwardOf}
+use Rattle.calls.specs.Calls.{Enters, forwardOf}
 use Rattle.calls.specs.Looks.{lookOf}
 use Rattle.calls.specs.Moves.{by}
 use Rattle.calls.specs.Demand.{leftBy, givenTo}
 use Rattle.calls.specs.Trips.{backBy}
 use Rattle.calls.proofs.Entering.{enters-unrefused}
-use Rattle.calls.proofs.Answers.{moved}
 use Rattle.calls.proofs.Looks.{look-tells}
 use Rattle.calls.proofs.RoundTrip.{left-enters, round-trip}
-use Rattle.session.specs.Types.{wayMeant, sessionMeant, outcomeMeant, lookMeant, lent}
+use Rattle.session.specs.Types.{sessionMeant, outcomeMeant, lookMeant, lent}
 use Rattle.session.specs.Steps.{TokenAt, Ready}
 use Rattle.session.specs.Passes.{Winds}
 use Rattle.session.specs.Looks.{toldFrom}
 use Rattle.session.specs.declared.Session as Declared
 use Rattle.session.specs.declared.Outcome as Came
-use Rattle.session.specs.declared.winding.Way as DeclaredWay
 use Rattle.session.specs.declared.winding.Way.the-variants.{Forward, Back}
-
--- A walk from the state held is the call by its count.
-winds-so : {w : List ℕ} {n : ℕ} {se : Declared.Session} {ls ts : List ℕ} {s : State} → TokenAt w n se ls ts s → (way : DeclaredWay.Way) (count : ℕ) (o : Came.Outcome) (ls′ ts′ : List ℕ)
-    → Winds w n se ls ts way count o ls′ ts′ → outcomeMeant o ls′ ts′ ≡ windOf (wayMeant way) (lent w n se ls ts) count
-winds-so {w} {n} {se} {ls} {ts} {s} h way count o ls′ ts′ winds = winds s h ∙ sym (moved (by (wayMeant way) count) (lent w n se ls ts) s (h .enters) refl)
+use Rattle.session.proofs.Calls.{winds-from}
 
 module _ {w : List ℕ} {n : ℕ} {se : Declared.Session} {ls ts : List ℕ} {s : State} (h : TokenAt w n se ls ts s) (count : ℕ)
     (o : Came.Outcome) (ls₁ ts₁ : List ℕ) (winds : Winds w n se ls ts Forward count o ls₁ ts₁) where
@@ -36,7 +30,7 @@ module _ {w : List ℕ} {n : ℕ} {se : Declared.Session} {ls ts : List ℕ} {s 
   given = lent w n se ls ts
 
   came : outcomeMeant o ls₁ ts₁ ≡ forwardOf given count
-  came = winds-so h Forward count o ls₁ ts₁ winds
+  came = winds-from (by forward count) w n se ls ts h refl o ls₁ ts₁ winds
 
   -- where it came to there is a state again
   abbrev there : State
@@ -50,7 +44,7 @@ module _ {w : List ℕ} {n : ℕ} {se : Declared.Session} {ls ts : List ℕ} {s 
 
   module _ (a : Came.Outcome) (ls₂ ts₂ : List ℕ) (winds-back : Winds w n (o .session) ls₁ ts₁ Back (o .steps) a ls₂ ts₂) where
     returned : outcomeMeant a ls₂ ts₂ ≡ backBy given (forwardOf given count)
-    returned = winds-so token-there Back (o .steps) a ls₂ ts₂ winds-back ∙ ap (backBy given) came
+    returned = winds-from (by back (o .steps)) w n (o .session) ls₁ ts₁ token-there refl a ls₂ ts₂ winds-back ∙ ap (backBy given) came
 
     -- every word as given
     pub home-again : (ls₂ ≡ ls) × (ts₂ ≡ ts)

@@ -35,6 +35,12 @@ module _ (m : Move) (w : List ℕ) (n : ℕ) (se : Declared.Session) (ls ts : Li
   pub move-refuses : (k : ℕ) (o : Came.Outcome) → k ≡ numberMeant (moveNumber m given) → (k ≡ 0 → ⊥) → Refuses se k o → outcomeMeant o ls ts ≡ outcomeOf m given
   move-refuses k o e z i = i w n ls ts ∙ sym (by-number m given k (number-some (moveNumber m given) k e z))
 
+  -- The walk, as the code promises it from every state held, is the call's where no number of its own refuses it.
+  pub winds-from : {s : State} → TokenAt w n se ls ts s → ownNumber m n (se .position) ≡ none → (o : Came.Outcome) (ls′ ts′ : List ℕ)
+      → ((u : State) → TokenAt w n se ls ts u → outcomeMeant o ls′ ts′ ≡ wound (room ls ts) (runOf m (tableIn w n) (room ls ts) (momentOf (sessionMeant se) u)))
+      → outcomeMeant o ls′ ts′ ≡ outcomeOf m given
+  winds-from {s} h own o ls′ ts′ i = i s h ∙ sym (moved m given s (h .enters) own)
+
   -- the number 0
   module _ (e : 0 ≡ numberMeant (moveNumber m given)) where
     free : (callNumber given ≡ none) × (ownNumber m n (se .position) ≡ none)
@@ -43,11 +49,10 @@ module _ (m : Move) (w : List ℕ) (n : ℕ) (se : Declared.Session) (ls ts : Li
     pub move-ready : Ready w n se ls ts
     move-ready = ready-at w n se ls ts (free .0)
 
-    -- the walk, as the code promises it from the state held
     pub move-winds : (o : Came.Outcome) (ls′ ts′ : List ℕ)
-        → ((s : State) → TokenAt w n se ls ts s → outcomeMeant o ls′ ts′ ≡ wound (room ls ts) (runOf m (tableIn w n) (room ls ts) (momentOf (sessionMeant se) s)))
+        → ((u : State) → TokenAt w n se ls ts u → outcomeMeant o ls′ ts′ ≡ wound (room ls ts) (runOf m (tableIn w n) (room ls ts) (momentOf (sessionMeant se) u)))
         → outcomeMeant o ls′ ts′ ≡ outcomeOf m given
-    move-winds o ls′ ts′ i = i (move-ready .state) (move-ready .token) ∙ sym (moved m given (move-ready .state) (move-ready .token .enters) (free .1))
+    move-winds = winds-from (move-ready .token) (free .1)
 
 -- "go-to takes a position and is forward or back by the difference"
 module _ (g : Given) (q : ℕ) (o : Came.Outcome) (ls′ ts′ : List ℕ) where

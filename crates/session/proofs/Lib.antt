@@ -16,5 +16,5 @@ pub mod Passes
 pub mod Weighing
 pub mod Loops
 pub mod Searches
-pub mod Ahead
 pub mod Calls
+pub mod Ahead
