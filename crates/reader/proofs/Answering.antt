@@ -16,7 +16,7 @@ use Rattle.term.specs.Code.{codeOf}
 use Rattle.text.specs.Reading.{Read, tooShort, refused, laidOut, answer}
 use Rattle.reader.specs.Layout.{Whole}
 use Rattle.reader.specs.Answering.{anyZero, Codes, InCode, answerFor}
-use Rattle.reader.proofs.Parts.{code-length}
+use Rattle.term.proofs.Coded.{code-length}
 use Rattle.reader.proofs.Nameless.{zero-append}
 
 -- The last two numbers of a reading, whatever comes before them.

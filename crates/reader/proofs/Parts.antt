@@ -9,14 +9,8 @@ use lib.Seq.{drop-drop, drop-at, getD-drop}
 use Rattle.term.specs.Term.{Term, var, lam, app, size}
 use Rattle.term.specs.Code.{codeOf}
 use Rattle.term.proofs.Rows.{size-positive}
+use Rattle.term.proofs.Coded.{code-length}
 use Rattle.reader.specs.Layout.{Layable}
-
--- A term has a word for each node.
-pub code-length : (t : Term) → length (codeOf t) ≡ size t
-unfolding codeOf
-code-length (var x) = refl
-code-length (lam b) = ap suc (code-length b)
-code-length (app f a) = ap suc (length-append (codeOf f) (codeOf a) ∙ omega (arith, code-length f, code-length a))
 
 -- The words that stand after some others: the first of them, and the others.
 module _ (code : List ℕ) (before w : ℕ) (ws : List ℕ) (e : drop before code ≡ w ∷ ws) where

@@ -2,6 +2,7 @@ pub mod Choice
 pub mod Closed
 pub mod Stores
 pub mod Rows
+pub mod Coded
 pub mod Table
 pub mod Columns
 pub mod Scope
