@@ -14,7 +14,7 @@ enum { STACK = 8 << 20, PAINT = 0xA5, TABLE = 5 * YILDREUZ_MOST_NODES };
 static uint8_t text[YILDREUZ_MOST_BYTES], written[YILDREUZ_MOST_BYTES];
 static size_t text_len;
 static uint16_t table[TABLE];
-static uint32_t log_words[YILDREUZ_LONGEST], tape_words[YILDREUZ_LONGEST], n;
+static uint32_t log_words[YILDREUZ_LONGEST], tape_words[YILDREUZ_LONGEST], records[YILDREUZ_LONGEST_RECORDS], n;
 static yildreuz_session session;
 
 #define ALL_SLICES log_words, YILDREUZ_LONGEST, tape_words, YILDREUZ_LONGEST
@@ -36,6 +36,7 @@ static void *goes_to(void *unused) { session = yildreuz_go_to(table, TABLE, n, s
 static void *forward_to(void *unused) { session = yildreuz_forward_to(table, TABLE, n, session, ALL_SLICES, 1, YILDREUZ_UP, 20000).session; return unused; }
 static void *none_back(void *unused) { session = yildreuz_back_to(table, TABLE, n, session, ALL_SLICES, 1, YILDREUZ_UP).session; return unused; }
 static void *back_to(void *unused) { session = yildreuz_back_to(table, TABLE, n, session, ALL_SLICES, 1, YILDREUZ_DOWN).session; return unused; }
+static void *runs(void *unused) { yildreuz_run(table, TABLE, n, records, YILDREUZ_LONGEST_RECORDS, 20000); return unused; }
 
 /* Bytes that a thread touches of a stack painted before. */
 static size_t touched(void *(*call)(void *))
@@ -111,6 +112,7 @@ static void measure_calls(const char *on)
     measure("forward_to", on, forward_to, YILDREUZ_CALL_STACK);
     measure("back_to, none", on, none_back, YILDREUZ_CALL_STACK);
     measure("back_to", on, back_to, YILDREUZ_CALL_STACK);
+    measure("run", on, runs, YILDREUZ_CALL_STACK);
 }
 
 /* 2,999 abstractions over a variable: deeper than any text. */

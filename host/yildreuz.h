@@ -1,12 +1,12 @@
 /* Yildreuz for C and C++: reads a closed lambda-term and writes it back as text, with names or with numbers for its
    variables, converts a text of either kind into the other, opens a session on a term, moves a token over it, forward,
    back, to a position or to the last or next visit of a node, tells what a walk forward would come to before it is made,
-   and points at the newest entry that the token carries. Link libyildreuz.a (x86-64 Linux), which needs memset of the C
-   library and nothing else.
+   points at the newest entry that the token carries, and runs Krivine's machine on a term. Link libyildreuz.a (x86-64
+   Linux), which needs memset of the C library and nothing else.
 
-   Who owns what. Every byte and word is the caller's. A call borrows texts, table, log and tape while it runs: it keeps
-   no pointer, allocates nothing, and has no state of its own, so calls that write different slices may run at the same
-   time, on one table too. Sessions and answers are numbers, handed over and back by value; a copy of one is as good as
+   Who owns what. Every byte and word is the caller's. A call borrows texts, table, log, tape and records while it runs: it
+   keeps no pointer, allocates nothing, and has no state of its own, so calls that write different slices may run at the
+   same time, on one table too. Sessions and answers are numbers, handed over and back by value; a copy of one is as good as
    the other.
 
    What a call takes. Any bytes, words and numbers there are: each call ends on all of them, and refuses by number what
@@ -18,7 +18,8 @@
 
    What a refusal leaves. No lent byte or word differs but the one through which top tells the number, and a call that takes
    a session and answers one gives back the one it took, number for number. Every other number of the answer is 0, but for
-   the refusal's own and, in the answers of the calls that wind and of look, the stop YILDREUZ_REFUSED:
+   the refusal's own and, in the answers of the calls that wind and of look, the stop YILDREUZ_REFUSED, in that of run the
+   halt YILDREUZ_RUN_REFUSED:
      1  the text has more than 3,000 bytes            6  the table has fewer than 5 words for each node of the term
      2  it has a byte that no term has                7  n is 0 or over 3,000, the table has fewer than 5 x n words,
      3  it has a name over 8 bytes, or one that          or no closed term has it
@@ -32,10 +33,11 @@
                                                      12  the node to be visited is 0 or over n, or the direction of
                                                          the visit is neither 0 nor 1
                                                      15  the session's position is not the one that go is handed
-   A table's words have 16 bits, and 6 and 7 count these; those of log and tape have 32.
+                                                     16  the slice of records is over 16,383 words
+   A table's words have 16 bits, and 6 and 7 count these; those of log, tape and records have 32.
    Each call tests its numbers in this order: read 1 to 6; read_numbers 1, 13, 14, 6; write and write_numbers 7, 11;
    to_numbers 1 to 5, 11; to_names 1, 13, 14, 11; open 7, 8; forward, back and go_to 7 to 9; back_to and forward_to 7 to 9,
-   12; look 7 to 9; go 7 to 9, 15; top 7 to 10.
+   12; look 7 to 9; go 7 to 9, 15; top 7 to 10; run 7, 16.
 
    What lies in the slices. A table is five columns of n words, one behind the other: the nodes' kinds, lefts, rights,
    parents and levels. Field f of node i, f from 0 to 4 and i from 1 to n, is table[f * n + i - 1], so that a pointer to its
@@ -51,6 +53,10 @@
    Log and tape grow from the first word of their slices up. An entry is the entries inside it and, last, its variable's
    node: level(v) - level(left(v)) entries are inside that of the variable v. A bullet, on the tape alone, is the word 0. The
    words above both lists are 0.
+   A closure of Krivine's machine is a record of three words: node, environment, next. Record r, from 1, is words 3r - 2 to
+   3r of the slice, which in C are records[3 * r - 3] to records[3 * r - 1]. Environment is the record on top of the
+   closure's environment, and next the record below this one: on the stack at first, and in an environment once an
+   abstraction moved it there, which writes next anew. 0 is no record, and ends each of these chains.
 
    Two dialects of text. The one with names is that of read and write. The number dialect has \ before a body, @ before
    function and argument, and for a variable a decimal number without leading zeros: how many abstractions stand between
@@ -68,7 +74,8 @@
    which may be billions where the count, or the way to the position, is that long. A viewer that must stay awake winds
    in pieces, and one that winds far does so by large counts rather than by many small ones. back_to has no count: it may
    wind back to position 0, and forward again where there is no visit, however great the position is. A look makes the steps
-   that it tells of, and as many back.
+   that it tells of, and as many back. A run looks over the table alone, and with a great count it ends all the same, as
+   answer or full: each application takes a record, and none is given back.
 
    Stack. A call needs no more than the constants below say: measured on the deepest texts and tables that there are, and
    rounded up. */
@@ -86,6 +93,7 @@ enum {
     YILDREUZ_MOST_BYTES = 3000,          /* of a text, read or written */
     YILDREUZ_MOST_NODES = 3000,          /* of a term; its table has 5 words, of 16 bits, for each node */
     YILDREUZ_LONGEST = 16384,            /* words of a log or a tape slice; 0 is permitted */
+    YILDREUZ_LONGEST_RECORDS = 16383,    /* words of a slice of records, 3 for each; 0 is permitted */
     YILDREUZ_READ_STACK = 768 * 1024,    /* bytes of stack that yildreuz_read or yildreuz_read_numbers needs at most */
     YILDREUZ_CONVERT_STACK = 896 * 1024, /* bytes of stack that yildreuz_to_numbers or yildreuz_to_names needs at most */
     YILDREUZ_CALL_STACK = 576 * 1024     /* bytes of stack that each of the other calls needs at most */
@@ -109,6 +117,14 @@ enum {
     YILDREUZ_REFUSED = 7,   /* nothing was done; value is the refusal's number */
     YILDREUZ_FOUND = 8,     /* back_to or forward_to came to a visit of the node in the direction */
     YILDREUZ_NONE = 9       /* back_to came to none; session, log and tape are as they were given */
+};
+
+/* Why run ended. Spent, answer and full are tested before each step, in this order. */
+enum {
+    YILDREUZ_RUN_SPENT = 0,  /* every step asked for was made */
+    YILDREUZ_RUN_ANSWER = 1, /* at an abstraction with an empty stack */
+    YILDREUZ_RUN_FULL = 2,   /* at an application, with as many records taken as fit */
+    YILDREUZ_RUN_REFUSED = 3 /* nothing was done; value is the refusal's number */
 };
 
 /* What read and read_numbers answer. */
@@ -179,6 +195,14 @@ typedef struct yildreuz_part {
     uint32_t offset; /* the index of its first word; 0 in a refusal */
     uint32_t len;    /* how many words it has, at least 1; 0 in a refusal */
 } yildreuz_part;
+
+/* What run answers. */
+typedef struct yildreuz_ran {
+    uint32_t node;  /* where the run stands, whatever the halt; 0 in a refusal */
+    uint32_t steps; /* steps made; 0 in a refusal */
+    uint32_t halt;  /* why it ended: YILDREUZ_RUN_SPENT to YILDREUZ_RUN_REFUSED */
+    uint32_t value; /* the refusal's number, 7 or 16; 0 with every other halt */
+} yildreuz_ran;
 
 /* Reads a closed term.
    Borrows the text to read it, and the table to write its first 5 x n words; the words after them stay.
@@ -301,6 +325,20 @@ yildreuz_outcome yildreuz_go(const uint16_t *table, size_t table_len, uint32_t n
 yildreuz_part yildreuz_top(const uint16_t *table, size_t table_len, uint32_t n, yildreuz_session session,
                            const uint32_t *log, size_t log_len, const uint32_t *tape, size_t tape_len, uint32_t which,
                            uint32_t *refusal);
+
+/* Runs Krivine's machine from the start for count steps, or fewer if another halt comes first. At first it stands at node
+   1, and environment and stack, two lists of closures, are empty. An application puts a closure of its argument and the
+   environment on the stack and goes to its function; an abstraction moves the stack's top closure onto the environment and
+   goes to its body, and with the stack empty it is the answer; a variable takes node and environment of the closure that is
+   i below the environment's top, i being the abstractions between it and its binder. Each application step takes one new
+   record, from record 1 on, and none is given back; as many fit as the slice has whole threes of words.
+   Borrows the table to read it, and records to write those that it takes: no word is read before it is written and none is
+   cleared, so that whatever lies there may stay, and the words past the taken records keep their values.
+   Refuses with 7, or after it with 16 where more than YILDREUZ_LONGEST_RECORDS words are lent, and then every word stays.
+   Needs YILDREUZ_CALL_STACK bytes of stack.
+   The caller promises: records does not overlap the table; and what the top of this file says of pointers. */
+yildreuz_ran yildreuz_run(const uint16_t *table, size_t table_len, uint32_t n, uint32_t *records, size_t records_len,
+                          uint32_t count);
 
 #ifdef __cplusplus
 }

@@ -24,22 +24,27 @@ and used so, with host/ in PYTHONPATH:
     written = lib.write(table, n, text)    # text[:written.len] is now rb'(\v2.v2 v2) (\v6.v6)'
     written = lib.write_numbers(table, n, text)    # and now rb'@ \ @ 0 0 \ 0', which lib.read_numbers reads
     written = lib.to_names(rb'@ \ @ 0 0 \ 0', text)    # the names again; lib.to_numbers goes the other way
+    records = yildreuz.words(30)
+    ran = lib.run(table, n, records, 100)    # Krivine's machine: ran.node 6, ran.steps 7, ran.halt RUN_ANSWER
+    closures = memoryview(records)[:6]    # node, environment and next of the two records that it took, no word of them copied: 6, 0, 0, 5, 1, 0
 
-Table, log and tape are the caller's: `table_words(k)`, or any writable buffer of 16-bit words such as an array('H'), for the table, and `words(k)`, or any
-writable buffer of 32-bit words such as an array('I'), for log and tape; a memoryview of a part of one will do. So is what a text is written into: a bytearray,
-or any other writable buffer of bytes. A call borrows them while it runs and writes into them in place. Sessions and answers are tuples of numbers. What lies in
-a table, what the answers mean, what each number refuses and what a refusal leaves stands in yildreuz.h. What that header leaves to the caller to promise is
-tested here: a buffer of other items, slices that overlap, or a number that is no 32-bit word raise an error before the call.
+Table, log, tape and records are the caller's: `table_words(k)`, or any writable buffer of 16-bit words such as an array('H'), for the table, and `words(k)`, or
+any writable buffer of 32-bit words such as an array('I'), for log, tape and records; a memoryview of a part of one will do. So is what a text is written into: a
+bytearray, or any other writable buffer of bytes. A call borrows them while it runs and writes into them in place. Sessions and answers are tuples of numbers.
+What lies in a table and in the records, what the answers mean, what each number refuses and what a refusal leaves stands in yildreuz.h. What that header leaves
+to the caller to promise is tested here: a buffer of other items, slices that overlap, or a number that is no 32-bit word raise an error before the call.
 """
 import ctypes
 from array import array
 from typing import NamedTuple
 
-MOST_BYTES, MOST_NODES, LONGEST = 3000, 3000, 16384
+MOST_BYTES, MOST_NODES, LONGEST, LONGEST_RECORDS = 3000, 3000, 16384, 16383
 DOWN, UP = 0, 1
 LOG, TAPE = 0, 1
 SPENT, ANSWER, JAM, FAR, START, LOG_FULL, TAPE_FULL, REFUSED, FOUND, NONE = range(10)
 STOP_NAMES = ('spent', 'answer', 'jam', 'far', 'start', 'log full', 'tape full', 'refused', 'found', 'none')
+RUN_SPENT, RUN_ANSWER, RUN_FULL, RUN_REFUSED = range(4)
+HALT_NAMES = ('spent', 'answer', 'full', 'refused')
 
 GREATEST = 4294967295  # of a position, a count and any other word
 
@@ -99,8 +104,15 @@ class Top(NamedTuple):
     refusal: int
 
 
+class Ran(NamedTuple):
+    node: int
+    steps: int
+    halt: int
+    value: int
+
+
 def words(count):
-    """A slice of so many words for a log or a tape, all 0."""
+    """A slice of so many words for a log, a tape or records, all 0."""
     return array('I', bytes(4 * count))
 
 
@@ -123,6 +135,7 @@ _Opening = _struct(Opening, session=_Session)
 _Outcome = _struct(Outcome, session=_Session, carried=ctypes.c_uint64)
 _Look = _struct(Look, carried=ctypes.c_uint64)
 _Part = _struct(Part)
+_Ran = _struct(Ran)
 
 
 def _told(shape, struct):
@@ -143,12 +156,12 @@ _TABLE, _LIST, _TEXT = (ctypes.c_uint16, 'H'), (ctypes.c_uint32, 'I'), (ctypes.c
 
 
 def _lent(*slices):
-    """Of each slice its kind, _TABLE, _LIST (log or tape) or _TEXT, and the buffer."""
+    """Of each slice its kind, _TABLE, _LIST (log, tape or records) or _TEXT, and the buffer."""
     arguments, ends = [], []
     for (item, code), buffer in slices:
         view, size = memoryview(buffer), ctypes.sizeof(item)
         if view.ndim != 1 or view.format not in (code, '<' + code, '=' + code) or view.readonly or not view.c_contiguous:
-            raise TypeError('a table is a writable buffer of 16-bit words, log and tape of 32-bit words, and a text to be written of bytes')
+            raise TypeError('a table is a writable buffer of 16-bit words, log, tape and records of 32-bit words, and a text to be written of bytes')
         # none may be NULL, so what has no items is lent as a spare one
         lent = (item * len(view)).from_buffer(view) if len(view) else (item * 1)()
         start = ctypes.addressof(lent)
@@ -194,6 +207,7 @@ class Library:
         self._look = self._call(lib.yildreuz_look, _Look, winding)
         self._go = self._call(lib.yildreuz_go, _Outcome, winding + [_WORD])
         self._top = self._call(lib.yildreuz_top, _Part, winding + [_WORDS])
+        self._run = self._call(lib.yildreuz_run, _Ran, [_COLUMNS, _LEN, _WORD, _WORDS, _LEN, _WORD])
 
     @staticmethod
     def _call(function, restype, argtypes):
@@ -263,6 +277,11 @@ class Library:
         refusal = ctypes.c_uint32()
         part = self._top(*table, _word(n), _Session(*map(_word, session)), *log, *tape, _word(which), ctypes.byref(refusal))
         return Top(_told(Part, part), refusal.value)
+
+    def run(self, table, n, records, count):
+        """Runs Krivine's machine for count steps, or fewer if another halt comes first, with its closures in the records."""
+        table, records = _lent((_TABLE, table), (_LIST, records))
+        return _told(Ran, self._run(*table, _word(n), *records, _word(count)))
 
     @staticmethod
     def _lay_out(call, text, table):

@@ -6,9 +6,10 @@
 Texts are closed terms, written with blanks and brackets that the grammar permits or in the number dialect, and damaged ones; tables, slices and sessions are
 those that the calls left, and damaged ones, tables also with another n, in rows where columns belong, and short of words, slices also cut to the words in use,
 sessions also with other turns; terms are written, and texts converted, into about as many bytes as the result has; the visits looked for are mostly of nodes
-that the token comes to; what a look hands out is at times gone by, at once or after other calls. Every number of every answer is compared, every word or byte
-of what is lent, and those that stand before and after it. At the end every stop and every refusal must have come up, from each call that gives it, and so must a
-9, a jam and a none that come of the turns alone, and a go whose results were foretold. First, what the wrapper itself must refuse.
+that the token comes to; what a look hands out is at times gone by, at once or after other calls; runs are made on tables of both kinds, in slices of a few
+words, now and then of about as many as are permitted, whatever stood in them. Every number of every answer is compared, every word or byte of what is lent, and
+those that stand before and after it. At the end every stop, halt and refusal must have come up, from each call that gives it, and so must a 9, a jam and a none
+that come of the turns alone, and a go whose results were foretold. First, what the wrapper itself must refuse.
 """
 import pathlib
 import random
@@ -24,6 +25,7 @@ import yildreuz  # noqa: E402
 GUARD = 3  # words or bytes before and after what is lent
 FARTHEST = 200  # steps
 FAR_BACK = 10000  # steps of a search back
+SHORT = 300  # words of records, so few that a run by any count is soon full
 CODES = {name: code for code, name in enumerate(yildreuz.STOP_NAMES)}
 
 # what must have come up of each call by the end
@@ -46,6 +48,7 @@ DUE['forward_to'] = DUE['forward'] | {'found', 'refused 12', 'no chosen directio
 DUE['look'] = DUE['forward']
 DUE['go'] = DUE['forward'] | {'refused 15', 'foretold'}
 DUE['back_to'] = {'found', 'none', 'none by turns', 'refused 12', 'no chosen direction'} | NO_SESSION
+DUE['run'] = {'spent', 'answer', 'full', 'words left over', '16,383 words', 'refused 7', 'refused 16', '7 before 16'}
 
 
 class Lent:
@@ -102,10 +105,10 @@ def random_named(rng):
     kind = rng.random()
     if kind < 0.25:
         text = rng.choice(KNOWN)
-    elif kind < 0.94:
+    elif kind < 0.88:
         text = spelled(rng, random_tree(rng, rng.randint(1, 24), []), 'term')
     else:
-        text = rng.choice(LONG_NAMED + LONG_NAMED + [b' ' * rng.choice([2999, 3000, 3001]), b' ' * 3001, b'(' * 700, b''])
+        text = rng.choice(3 * LONG_NAMED + [b' ' * rng.choice([2999, 3000, 3001]), b' ' * 3001, b'(' * 700, b''])
     if rng.random() < 0.25:
         text = bytearray(text)
         for _ in range(rng.randint(1, 2)):
@@ -127,7 +130,14 @@ def random_parts(rng, size, depth):
     return b'\\ ' + random_parts(rng, size - 1, depth + 1)
 
 
-LONG_NUMBERED = 2 * [b'\\ ' * 517 + b'@ 516 507', b'\\ ' * 517 + b'@ 507 507'] + [  # 3,000 and 3,001 bytes when written with names
+def random_spine(rng):
+    """Some abstractions applied to as many arguments, so that a variable may be bound far out."""
+    k = rng.randint(2, 12)
+    args = [random_parts(rng, rng.randint(2, 6), 0) for _ in range(k)]
+    return b' '.join(k * [b'@'] + k * [b'\\'] + [random_parts(rng, rng.randint(1, 12), k)] + args)
+
+
+LONG_NUMBERED = 5 * [b'\\ ' * 517 + b'@ 516 507', b'\\ ' * 517 + b'@ 507 507'] + [  # 3,000 and 3,001 bytes when written with names
     b'\\ ' * 1498 + b'1497', b'\\ ' * 1499 + b'10', b'\\ ' * 1499 + b'100',  # 3,000, 3,000 and 3,001 bytes
     b'\\ ' + b'@ ' * 749 + b'0' + b' 0' * 749, b'\\ ' + b'@ 0 ' * 749 + b'0', b'\\ ' * 1500, b'@ ' * 1499 + b'0', b' ' * 3000,
 ]
@@ -152,10 +162,12 @@ def damaged_numbers(rng, text):
 
 def random_numbered(rng):
     kind = rng.random()
-    if kind < 0.12:
+    if kind < 0.15:
         text = rng.choice(LONG_NUMBERED)
     elif kind < 0.2:
         text = rng.choice([b'', b'0', b'\\', b'@', b' ', rb'\ 0', rb'@ \ @ 0 0 \ 0'])
+    elif kind < 0.35:
+        text = random_spine(rng)
     else:
         text = random_parts(rng, rng.randint(1, 24), 0)
     return text if rng.random() < 0.7 else damaged_numbers(rng, text)
@@ -286,6 +298,13 @@ def expected_top(w, n, s, log, tape, which):
     return yildreuz.Top(yildreuz.Part(offset, len(part)), refusal), part
 
 
+def expected_run(w, n, records, count):
+    """The answer of a run; the records are a list, changed in place."""
+    node, steps, halt = reference.run(w, n, records, count)
+    name, *value = halt.split()
+    return yildreuz.Ran(node, steps, yildreuz.HALT_NAMES.index(name), int(*value))
+
+
 # ---- what a refusal or a jam came of
 
 def refused(number, w, n, s, log, tape):
@@ -368,7 +387,7 @@ class Comparison:
 
     def room(self):
         """How long a slice is: mostly enough, at times too short, and at times too long to be permitted."""
-        return self.rng.choice([0, 1, 2, 3, 5, 8, 16, 64, 64, 64]) if self.rng.random() < 0.995 else self.rng.choice([16384, 16385])
+        return self.rng.choice([0, 1, 2, 3, 5, 8, 16, 64, 64, 64]) if self.rng.random() < 0.99 else self.rng.choice([16384, 16385])
 
     def open(self, table, n):
         log, tape = (Lent(self.rng, [self.rng.getrandbits(32) for _ in range(self.room())]) for _ in range(2))
@@ -463,6 +482,25 @@ class Comparison:
             what = 'bullet' if part == [0] else 'nested' if len(part) > 1 else ('log entry', 'tape entry')[which]
         self.note('top', what)
 
+    def run(self, table, n):
+        """One run, in a slice of any words: at times such as could be records, so that one read before it is written would show."""
+        rng, most, w = self.rng, yildreuz.LONGEST_RECORDS, table.now()
+        room = rng.choice([0, 1, 2, 3, 5, 6, 9, 30, rng.randint(0, SHORT), rng.randint(0, SHORT)]) if rng.random() < 0.94 else rng.choice([most, most + 1])
+        before = [rng.getrandbits(32) for _ in range(room)] if rng.random() < 0.5 else [rng.randint(0, 9) for _ in range(room)]
+        count = rng.choice([0, 1, 2, 3, 7, 20, FARTHEST, 3000, yildreuz.GREATEST if room <= SHORT else 2000])
+        records, left = Lent(rng, before), list(before)
+        got, want, given = self.lib.run(table.part, n, records.part, count), expected_run(w, n, left, count), ('run', w, n, before, count)
+        self.same((got, table.now(), records.now()), (want, w, left), given)
+        what = yildreuz.HALT_NAMES[got.halt]
+        if what == 'refused':
+            self.same(records.now(), before, given)
+            what = '7 before 16' if got.value == 7 and room > most else 'refused %d' % got.value
+        elif room == most:
+            what = '16,383 words'
+        elif what == 'full' and room % 3:
+            what = 'words left over'
+        self.note('run', what)
+
     def walk(self):
         """A term, a session and some calls on it, damaged or not. What a damaged session or slice leads to is at times gone on with."""
         rng = self.rng
@@ -480,6 +518,8 @@ class Comparison:
         for name in ('write', 'write_numbers'):
             if rng.random() < 0.6:
                 self.write(table, n, name)
+        for _ in range(rng.randint(0, 4)):
+            self.run(*(damaged_table(rng, table, n) if rng.random() < 0.2 else (table, n)))
         s, log, tape = self.open(table, n)
         for _ in range(rng.randint(1, 30) if n < 1000 else 2):  # a large term takes long
             part = rng.random()
@@ -545,6 +585,12 @@ def refuses_misuse(lib):
         (OverflowError, lambda: lib.look(table, n, start, log, tape, -1)),
         (OverflowError, lambda: lib.go(table, n, start, log, tape, yildreuz.GREATEST + 1, 0)),
         (OverflowError, lambda: lib.go(table, n, start, log, tape, 0, yildreuz.GREATEST + 1)),
+        (ValueError, lambda: lib.run(table, n, memoryview(table).cast('B')[4:12].cast('I'), 1)),
+        (TypeError, lambda: lib.run(table, n, narrow, 1)),
+        (TypeError, lambda: lib.run(shared, n, log, 1)),
+        (TypeError, lambda: lib.run(table, n, bytes(12), 1)),
+        (OverflowError, lambda: lib.run(table, -1, log, 1)),
+        (OverflowError, lambda: lib.run(table, n, log, yildreuz.GREATEST + 1)),
         (ValueError, lambda: lib.top(table, n, start, log, memoryview(log)[1:], yildreuz.LOG)),
         (OverflowError, lambda: lib.top(table, n, start, log, tape, -1)),
         (TypeError, lambda: lib.write(table, n, bytes(10))),

@@ -1,8 +1,9 @@
 #!/usr/bin/env python3
-"""An independent reading of document 01, and of changes 1 to 3 and 5 to 10 of document 02, from which the expected outputs of the programs `cases` and `winder` are worked out.
+"""An independent reading of document 01, and of changes 1 to 3 and 5 to 11 of document 02, from which the expected outputs of the programs are worked out.
 
   tools/reference.py cases < SCRIPT   what `cases` must print for a script of cases, as crates/cases/stdin (script.py)
   tools/reference.py winder < TERM    what `winder` must print for a term
+  tools/reference.py compare < TERMS  what `compare` must print for terms, one a line
 
 It shares nothing with the crates: terms are trees with names, nodes are lists of five words, entries are nested tuples, the machine is the eight rules over
 them, and a session is checked by reading its words back. A table is a list of words in which the nodes stand in five columns. It is slow and plain on purpose.
@@ -600,7 +601,64 @@ def top(w, n, se, log, tape, which):
     return end - len(part), part, 0
 
 
-# ---- the program winder
+# ---- Krivine's machine
+
+def run(w, n, records, count):
+    """The node, the steps and the halt of a run; the records are a list, changed in place.
+
+    A list of closures is a chain of Python's own: an environment links each binder to a record, and a variable looks there for its own binder, so that no
+    abstraction is counted.
+    """
+    table = accepted(w, n)
+    if table is None:
+        return 0, 0, 'refused 7'
+    if len(records) > 16383:
+        return 0, 0, 'refused 16'
+    made, stack, environment, node, steps = [], [], None, 1, 0
+    while True:
+        kind, left, right = table[node - 1][:3]
+        if steps == count:
+            return node, steps, 'spent'
+        if kind == 2 and not stack:
+            return node, steps, 'answer'
+        if kind == 3 and len(made) == len(records) // 3:
+            return node, steps, 'full'
+        top = environment[1] if environment else 0
+        if kind == 3:
+            made.append((right, environment))
+            records[3 * len(made) - 3:3 * len(made)] = [right, top, stack[-1] if stack else 0]
+            stack.append(len(made))
+            node = left
+        elif kind == 2:
+            r = stack.pop()
+            records[3 * r - 1] = top
+            node, environment = left, (node, r, environment)
+        else:
+            binding = environment
+            while binding[0] != left:
+                binding = binding[2]
+            node, environment = made[binding[1] - 1]
+        steps += 1
+
+
+# ---- the programs compare and winder
+
+def compared(line):
+    """What a line counts as, and whether both answered at different nodes."""
+    n, number, table = read(line, 15000)
+    if number:
+        return 'refused', False
+    s, _, _, _, stop, _, _ = wind(Machine(nodes_in(table, n)), START, 0, 0, 10000, 1024, 1024, False)
+    node, _, halt = run(table, n, [0] * 3000, 10000)
+    answers = [s[0]] * stop.startswith('answer') + [node] * (halt == 'answer')
+    return ('neither', 'one', 'both')[len(answers)], len(set(answers)) == 2
+
+
+def compare(data):
+    lines = data.split(b'\n')
+    counted = [compared(line) for line in (lines if lines[-1] else lines[:-1])]
+    return ' '.join('%d' % sum(c == name for c, _ in counted) for name in ('refused', 'both', 'one', 'neither')) + ' %d' % sum(d for _, d in counted)
+
 
 def winder(text):
     n, number, table = read(text, 15000)
@@ -619,13 +677,15 @@ def winder(text):
 def main():
     if sys.argv[1] == 'winder':
         print('\n'.join(winder(sys.stdin.buffer.read())))
+    elif sys.argv[1] == 'compare':
+        print(compare(sys.stdin.buffer.read()))
     else:
         import script
         sys.stdout.buffer.write(script.run(sys.stdin.buffer.read()))
 
 
 if __name__ == '__main__':
-    if sys.argv[1:] not in (['winder'], ['cases']):
+    if sys.argv[1:] not in (['winder'], ['cases'], ['compare']):
         sys.exit(__doc__)
     # entries may stand inside entries as deep as a slice is long
     sys.setrecursionlimit(70000)

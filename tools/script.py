@@ -2,7 +2,7 @@
 from itertools import groupby
 
 from reference import (GREATEST, START, Machine, Session, accepted, back_to, call, forward_to, go, go_to, in_columns, lay, look, open_session, read,
-                       read_numbers, to_names, to_numbers, top, wind, words, write, write_numbers)
+                       read_numbers, run as krivine, to_names, to_numbers, top, wind, words, write, write_numbers)
 
 LONGEST_SCRIPT, LONGEST_TEXT, LONGEST_BUFFER, LONGEST_WRITTEN = 131071, 3001, 3010, 3000
 GREATEST_IN_TABLE = 65535
@@ -164,6 +164,13 @@ class Desk:
     def do_go(self, position, count):
         return self.on_slices(lambda *lent: self.wound(go(*lent, position, count)))
 
+    def do_run(self, count):
+        """Krivine's machine, with the log's words as its records."""
+        records = self.log.part()
+        answer = ' node %d steps %d %s' % krivine(self.table.part(), self.n, records, count)
+        self.log.back(records)
+        return answer + ' L%s' % self.log.shown()
+
     def do_walk(self, count):
         return self.on_slices(lambda *lent: self.walked(*lent, count))
 
@@ -258,7 +265,7 @@ SHAPES = {
     'walk': (1, True), 'walk-back': (1, True), 'log-top': (0, True), 'tape-top': (0, True), 'write': (2, True), 'read-back': (0, True),
     'back-to': (2, True), 'forward-to': (3, True), 'read-numbers': (0, True), 'write-numbers': (2, True), 'read-numbers-back': (0, True),
     'to-numbers': (2, True), 'to-names': (2, True), 'to-numbers-read': (0, True), 'to-names-read': (0, True),
-    'numbers-and-back': (2, True), 'names-and-back': (2, True), 'look': (1, True), 'go': (2, True),
+    'numbers-and-back': (2, True), 'names-and-back': (2, True), 'look': (1, True), 'go': (2, True), 'run': (1, True),
 }
 SLICES = ('table', 'log', 'tape')
 for slice in SLICES:

@@ -18,6 +18,7 @@ pub(crate) enum Topic {
     OnSession,
     Write,
     ReadBack,
+    Run,
 }
 
 // What concerns no slice.
@@ -92,7 +93,7 @@ pub(crate) fn row_of(line: &[u8]) -> usize {
           back-to 2 + forward-to 3 + \
           read-numbers 0 + write-numbers 2 + read-numbers-back 0 + \
           to-numbers 2 + to-names 2 + to-numbers-read 0 + to-names-read 0 + \
-          numbers-and-back 2 + names-and-back 2 + look 1 + go 2 +",
+          numbers-and-back 2 + names-and-back 2 + look 1 + go 2 + run 1 +",
     )
 }
 
@@ -106,6 +107,7 @@ pub(crate) fn topic_of(row: usize) -> Topic {
         19..=21 => Topic::Tape,
         24 | 29 => Topic::Write,
         25 | 30 => Topic::ReadBack,
+        39 => Topic::Run,
         _ => Topic::Plain,
     }
 }

@@ -4,6 +4,7 @@ mod desk;
 mod dialects;
 mod lent;
 mod moves;
+mod runs;
 mod show;
 mod texts;
 mod words;
@@ -26,6 +27,7 @@ use desk::with_text;
 use lent::changed;
 use lent::table_changed;
 use moves::made;
+use runs::run_shown;
 use session::Dir;
 use session::Session;
 use show::show;
@@ -123,6 +125,7 @@ fn obey(
         Topic::OnSession => on_session(line, row, d, &table[..], log, tape),
         Topic::Write => write_shown(line, dialect_of(row), d, &table[..]),
         Topic::ReadBack => read_back_shown(line, dialect_of(row), d, table),
+        Topic::Run => run_shown(line, d, &table[..], log),
     }
 }
 

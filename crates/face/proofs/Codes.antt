@@ -1,4 +1,4 @@
--- Nothing is lost in numbers: no two directions, sessions, stops, lists or answers are told alike.
+-- Nothing is lost in numbers: no two directions, sessions, stops, halts, lists or answers are told alike.
 use mathlib.Core.Path.{_≡_, refl, sym, ap, _∙_}
 use mathlib.Core.Option.{Option, none, some, Option·some-injective, Option·none-ne-some}
 use mathlib.Core.List.{List}
@@ -10,13 +10,18 @@ use Rattle.machine.specs.Machine.{Dir, down, up}
 use Rattle.calls.specs.Session.{Session, Stop, spent, jam, far, start, logFull, tapeFull, found, answer, refused, Opening, Outcome, Given}
 use Rattle.calls.specs.Top.{Which, log, tape}
 use Rattle.calls.specs.Looks.{Look, lookOf}
+use Rattle.kam.specs.Runs
 use Rattle.face.specs.declared.HostSession.{HostSession}
-use Rattle.face.specs.Numbers.{dirNumber, dirIn, sessionNumbers, sessionIn, stopCode, stopValue, whichNumber, whichIn}
-use Rattle.face.specs.Told.{readTold, writeTold, openTold, outcomeTold, called, lookTold, lookCalled}
+use Rattle.face.specs.Numbers.{dirNumber, dirIn, sessionNumbers, sessionIn, stopCode, stopValue, haltCode, haltValue, whichNumber, whichIn}
+use Rattle.face.specs.Told.{readTold, writeTold, openTold, outcomeTold, called, lookTold, lookCalled, runTold}
 
 -- What is told and read again is told apart.
 told-apart : {A B : Type 0} (tell : A → B) (read : B → Option A) → ((a : A) → read (tell a) ≡ some a) → (x y : A) → tell x ≡ tell y → x ≡ y
 told-apart tell read again x y h = Option·some-injective x y (sym (again x) ∙ ap read h ∙ again y)
+
+-- The same of what is told as a code and a value.
+codes-apart : {A : Type 0} (code value : A → ℕ) (read : ℕ → ℕ → A) → ((a : A) → read (code a) (value a) ≡ a) → (x y : A) → code x ≡ code y → value x ≡ value y → x ≡ y
+codes-apart code value read again x y h k = sym (again x) ∙ (λ i. read (h i) (k i)) ∙ again y
 
 -- Directions.
 
@@ -67,8 +72,8 @@ pub look-told-again : (w : List ℕ) (n : ℕ) (se : Session) (ls ts : List ℕ)
 unfolding lookCalled
 look-told-again w n se ls ts c = rw (session-told se)
 
--- Stops: what a code and a value are read as, the codes counted down.
-abbrev orElse : Stop → (ℕ → Stop) → ℕ → Stop
+-- Stops and halts: what a code and a value are read as, the codes counted down.
+abbrev orElse : {A : Type 0} → A → (ℕ → A) → ℕ → A
 orElse x later zero = x
 orElse x later (suc c) = later c
 
@@ -88,7 +93,19 @@ stop-told found = refl
 stop-told Stop.none = refl
 
 pub codes-injective : (x y : Stop) → stopCode x ≡ stopCode y → stopValue x ≡ stopValue y → x ≡ y
-codes-injective x y h k = sym (stop-told x) ∙ (λ i. stopIn (h i) (k i)) ∙ stop-told y
+codes-injective = codes-apart (λ x. stopCode x) (λ x. stopValue x) (λ c v. stopIn c v) stop-told
+
+abbrev haltIn : ℕ → ℕ → Runs.Halt
+haltIn c v = orElse Runs.spent (orElse Runs.answer (orElse Runs.full (λ _. Runs.refused v))) c
+
+halt-told : (x : Runs.Halt) → haltIn (haltCode x) (haltValue x) ≡ x
+halt-told Runs.spent = refl
+halt-told Runs.answer = refl
+halt-told Runs.full = refl
+halt-told (Runs.refused k) = refl
+
+pub halts-injective : (x y : Runs.Halt) → haltCode x ≡ haltCode y → haltValue x ≡ haltValue y → x ≡ y
+halts-injective = codes-apart (λ x. haltCode x) (λ x. haltValue x) (λ c v. haltIn c v) halt-told
 
 -- Lists.
 
@@ -141,4 +158,12 @@ looks-injective k l h = λ i. record {
   count = h i .0 .count;
   log = h i .1;
   tape = h i .2;
+}
+
+pub runs-injective : (r s : Runs.Ran) → runTold r ≡ runTold s → r ≡ s
+runs-injective r s h = λ i. record {
+  node = h i .0 .node;
+  steps = h i .0 .steps;
+  halt = halts-injective (r .halt) (s .halt) (λ j. h j .0 .halt) (λ j. h j .0 .value) i;
+  records = h i .1;
 }

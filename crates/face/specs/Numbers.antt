@@ -1,4 +1,4 @@
--- Directions, sessions, stops, lists and spots in numbers, as a host in another language holds them (host/yildreuz.h).
+-- Directions, sessions, stops, halts, lists and spots in numbers, as a host in another language holds them (host/yildreuz.h).
 use mathlib.Core.Option.{Option, none, some}
 use Prim.Native.Nat.{ℕ, zero, suc}
 use Rattle.term.specs.Choice.{_>>=_, ifSome}
@@ -6,6 +6,7 @@ use Rattle.machine.specs.Machine.{Dir, down, up}
 use Rattle.calls.specs.Session.{Session, Stop, spent, jam, far, start, logFull, tapeFull, found, answer, refused}
 use Rattle.calls.specs.Top.{Which, log, tape}
 use Rattle.calls.specs.Visits.{Spot, spot}
+use Rattle.kam.specs.Runs
 use Rattle.face.specs.declared.HostSession.{HostSession}
 
 -- A direction is 0 down, 1 up,
@@ -65,6 +66,20 @@ stopValue tapeFull = 0
 stopValue (refused k) = k
 stopValue found = 0
 stopValue Stop.none = 0
+
+-- A halt of Krivine's machine is a code
+abbrev pub haltCode : Runs.Halt → ℕ
+haltCode Runs.spent = 0
+haltCode Runs.answer = 1
+haltCode Runs.full = 2
+haltCode (Runs.refused k) = 3
+
+-- and a value: the refusal's number, and 0 with every other.
+abbrev pub haltValue : Runs.Halt → ℕ
+haltValue Runs.spent = 0
+haltValue Runs.answer = 0
+haltValue Runs.full = 0
+haltValue (Runs.refused k) = k
 
 -- A list is 0 the log, 1 the tape (`list-told`, proofs/Codes.antt: each is named by its number),
 abbrev pub whichNumber : Which → ℕ

@@ -9,6 +9,7 @@ use Rattle.calls.specs.Session.{Session, Outcome, Opening, Given}
 use Rattle.calls.specs.Calls.{lentNumber, callNumber}
 use Rattle.calls.specs.Top.{Which, Shown, notShown, topOf}
 use Rattle.calls.specs.Looks.{Look, lookOf}
+use Rattle.kam.specs.Runs.{Ran}
 use Rattle.face.specs.declared.HostReading.{HostReading}
 use Rattle.face.specs.declared.HostWritten.{HostWritten}
 use Rattle.face.specs.declared.HostSession.{HostSession}
@@ -16,7 +17,8 @@ use Rattle.face.specs.declared.HostOpening.{HostOpening}
 use Rattle.face.specs.declared.HostOutcome.{HostOutcome}
 use Rattle.face.specs.declared.HostLook.{HostLook}
 use Rattle.face.specs.declared.HostPart.{HostPart}
-use Rattle.face.specs.Numbers.{sessionNumbers, sessionIn, refusedCode, stopCode, stopValue, whichIn}
+use Rattle.face.specs.declared.HostRun.{HostRun}
+use Rattle.face.specs.Numbers.{sessionNumbers, sessionIn, refusedCode, stopCode, stopValue, haltCode, haltValue, whichIn}
 
 abbrev pub readTold : Read → HostReading × List ℕ
 readTold r = (record { n = r .n; refusal = r .refusal }, r .table)
@@ -103,3 +105,7 @@ topOn none which w n ls ts = notShown (noSessionNumber w n ls ts)
 
 unfoldable pub topCalled : List ℕ → ℕ → HostSession → List ℕ → List ℕ → ℕ → HostPart × ℕ
 topCalled w n s ls ts which = topTold (topOn (sessionIn s) (whichIn which) w n ls ts)
+
+-- A run, and the words of its records after it.
+abbrev pub runTold : Ran → HostRun × List ℕ
+runTold r = (record { node = r .node; steps = r .steps; halt = haltCode (r .halt); value = haltValue (r .halt) }, r .records)

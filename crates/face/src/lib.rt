@@ -66,3 +66,13 @@ pub struct HostPart {
     pub offset: u32,
     pub len: u32,
 }
+
+// What a run of Krivine's machine answers: the node where it stands and the steps made. Halt: 0 spent, 1 answer, 2 full, 3 refused. Value: the refusal's number, or 0. In a refusal node and
+// steps are 0.
+#[repr(C)]
+pub struct HostRun {
+    pub node: u32,
+    pub steps: u32,
+    pub halt: u32,
+    pub value: u32,
+}

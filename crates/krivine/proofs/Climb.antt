@@ -1,11 +1,10 @@
 -- The walk up from a variable, node by node: what is still to be counted.
-use mathlib.Core.Path.{_≡_, refl, sym, ap, _∙_}
-use mathlib.Core.Bool.{cond}
+use mathlib.Core.Path.{_≡_, refl, sym, ap}
 use Prim.Native.Nat.{ℕ, zero, suc, _+_, _-_, _≤_, _<_}
 use native.Mathlib.Omega.{arith}
 use borrow.Author.Tests.{eq-eqb, ne-eqb}
 use Rattle.term.specs.Table.{Table, Kind, variable, abstraction, application, nothing, kindOf, kindAt}
-use Rattle.krivine.specs.Krivine.{abstractionsIn, abstractionsUp}
+use Rattle.kam.specs.Krivine.{abstractionsIn, abstractionsUp}
 
 pub abstraction-counts : (k : ℕ) → k ≡ 2 → abstractionsIn (kindOf k) ≡ 1
 unfolding kindOf

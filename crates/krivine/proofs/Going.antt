@@ -1,23 +1,22 @@
 -- The loop of a run: what is left to run from where it stands, with the steps made, is the whole run.
 use mathlib.Core.Path.{_≡_, refl, sym, ap, _∙_, subst, subst⁻¹}
-use mathlib.Core.Bool.{Bool, true, false, _&&_, false≢true, true≢false}
-use mathlib.Core.Option.{Option, none, some, Option·some-injective, Option·none-ne-some}
+use mathlib.Core.Bool.{Bool, true, false, _&&_, false≢true}
+use mathlib.Core.Option.{Option, none, some, Option·none-ne-some}
 use mathlib.Core.List.{List, [], _∷_, _++_}
-use Prim.Native.Nat.{ℕ, zero, suc, _+_, _-_, _*_, _≤_, _<_}
+use Prim.Native.Nat.{ℕ, suc, _+_, _-_, _*_, _≤_, _<_}
 use native.Mathlib.Omega.{arith}
 use lib.ListN.{length}
-use lib.Dec.{ltb, eqb}
 use borrow.Author.Tests.{eq-eqb, ne-eqb, ltb-false}
-use Rattle.term.specs.Choice.{Test, _⇒_, first, _>>=_, ifSome}
+use Rattle.term.specs.Choice.{_⇒_, first, ifSome}
 use Rattle.term.specs.Table.{Table, Kind, variable, abstraction, application, nothing, kindAt}
-use Rattle.krivine.specs.Krivine.{Closure, Closures, ∅, _▹_, State, state, startState, stepBy, step, newBy}
-use Rattle.krivine.specs.Records.{Records, noRecords, laidBy, laid}
-use Rattle.krivine.specs.Runs.{Halt, spent, answer, full, refused, Ran, Moment, moment, startMoment, next, isAnswerBy, isAnswer, isApplication, noneFree, isFull, haltBefore, ended, longer, runFrom, mostWords}
-use Rattle.krivine.specs.Standing.{Stood, stood, nodeBy, steppedBy, haltBy, Passed, on, halted, passOf, Steady}
-use Rattle.krivine.proofs.Chains.{StackChain}
-use Rattle.krivine.proofs.Scope.{SoundState, Onward, onward}
-use Rattle.krivine.proofs.Halting.{tests-fail, Steps, steps as steps-from}
-use Rattle.krivine.proofs.Tied.{Tied, tied-start, Next, tied-next}
+use Rattle.kam.specs.Krivine.{Closure, Closures, ∅, _▹_, State, state, startState, stepBy, step, newBy}
+use Rattle.kam.specs.Records.{Records, noRecords, laidBy, laid}
+use Rattle.kam.specs.Runs.{Halt, spent, answer, full, Ran, Moment, moment, startMoment, next, isAnswerBy, isAnswer, isApplication, noneFree, isFull, haltBefore, ended, longer, runFrom, mostWords}
+use Rattle.krivine.specs.Standing.{Stood, stood, steppedBy, haltBy, Passed, on, halted, passOf, Steady}
+use Rattle.kam.proofs.Chains.{StackChain}
+use Rattle.kam.proofs.Scope.{SoundState, Onward, onward}
+use Rattle.kam.proofs.Halting.{tests-fail, Steps, steps as steps-from}
+use Rattle.kam.proofs.Tied.{Tied, tied-start, Next, tied-next}
 
 -- what a pass says
 haltOf : Passed → Option Halt

@@ -1,16 +1,10 @@
 -- One pass of a run's loop, by the kind of the node: what ends the run there, and else where the step leads.
 use mathlib.Core.Path.{_≡_, refl, sym, ap, _∙_}
-use mathlib.Core.Bool.{true, false, cond}
-use mathlib.Core.Option.{Option}
-use mathlib.Core.List.{[], _∷_}
-use Prim.Native.Nat.{ℕ, zero, suc, _+_, _*_, _≤_, _<_}
-use native.Mathlib.Omega.{arith}
+use Prim.Native.Nat.{ℕ, zero, suc, _*_, _≤_, _<_}
 use lib.ListN.{length}
-use lib.Dec.{ltb, eqb}
 use borrow.Author.Tests.{eq-eqb, ne-eqb, lt-ltb, le-ltb}
-use Rattle.term.specs.Choice.{_⇒_, first, ifSome}
 use Rattle.term.specs.Table.{Table, Kind, variable, abstraction, application, nothing, kindOf, kindAt}
-use Rattle.krivine.specs.Runs.{Halt, answer, full, noneFree}
+use Rattle.kam.specs.Runs.{answer, full}
 use Rattle.krivine.specs.Standing.{Stood, steppedBy, Passed, on, halted, passBy, passOf}
 
 -- the kind that a number tells

@@ -2,7 +2,7 @@
 use mathlib.Core.Path.{_≡_, refl, sym, ap, _∙_}
 use mathlib.Core.List.{List}
 use Prim.Native.Nat.{ℕ}
-use Rattle.krivine.specs.Runs
+use Rattle.kam.specs.Runs
 use Rattle.krivine.specs.Types.{haltMeant, ranMeant}
 use Rattle.krivine.specs.declared.Halt.{Halt}
 use Rattle.krivine.specs.declared.Halt.the-variants.{Spent, Answer, Full, Refused}

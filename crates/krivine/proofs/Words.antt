@@ -6,8 +6,8 @@ use native.Mathlib.Omega.{arith}
 use lib.ListN.{length, getD, set, List·getD-eq-default}
 use lib.Seq.{sets}
 use Rattle.term.specs.Table.{Table, variable, abstraction, application}
-use Rattle.krivine.specs.Krivine.{indexAt}
-use Rattle.krivine.specs.Records.{wordIndex, fieldIn, nodeIn, environmentIn, nextIn, recordBelow, Records, laidBy}
+use Rattle.kam.specs.Krivine.{indexAt}
+use Rattle.kam.specs.Records.{wordIndex, fieldIn, nodeIn, environmentIn, nextIn, recordBelow, laidBy}
 use Rattle.krivine.specs.Standing.{Stood, stood, steppedBy}
 
 module _ (w : List ℕ) where

@@ -1,6 +1,2 @@
-pub mod Krivine
-pub mod Records
-pub mod Runs
-pub mod Lies
 pub mod Types
 pub mod Standing

@@ -2,14 +2,13 @@
 use mathlib.Core.Path.{_≡_}
 use mathlib.Core.Option.{Option, none}
 use mathlib.Core.List.{List, [], _∷_}
-use Prim.Native.Nat.{ℕ, suc, _*_, _≤_}
+use Prim.Native.Nat.{ℕ, _*_, _≤_}
 use lib.ListN.{length}
 use lib.Dec.{eqb}
 use Rattle.term.specs.Choice.{_⇒_, first, ifSome}
-use Rattle.term.specs.Table.{Table, tableIn, Kind, variable, abstraction, application, nothing, kindAt}
-use Rattle.krivine.specs.Krivine.{indexAt}
-use Rattle.krivine.specs.Records.{nodeIn, recordBelow, Records, laidBy}
-use Rattle.krivine.specs.Runs.{Halt, answer, full, noneFree, mostWords}
+use Rattle.term.specs.Table.{Table, Kind, variable, abstraction, application, nothing, kindAt}
+use Rattle.kam.specs.Records.{Records, laidBy, nodeBy}
+use Rattle.kam.specs.Runs.{Halt, answer, full, noneFree, mostWords}
 use Rattle.krivine.specs.Types.{haltMeant}
 use Rattle.krivine.specs.declared.runs.Pass.{Pass}
 use Rattle.krivine.specs.declared.runs.Pass.the-variants.{On, Halted}
@@ -29,13 +28,6 @@ recordsMeant at words = record { words = words; taken = at .taken; environment =
 
 abbrev pub stoodMeant : Standing → List ℕ → Stood
 stoodMeant at words = stood (at .node) (recordsMeant at words)
-
--- The node after a step, as the records have it, by the kind of the node before.
-abbrev pub nodeBy : Kind → Table → ℕ → Records → ℕ
-nodeBy application T i R = T .left i
-nodeBy abstraction T i R = T .left i
-nodeBy variable T i R = nodeIn (R .words) (recordBelow (indexAt T i) (R .words) (R .environment))
-nodeBy nothing T i R = i
 
 -- one step
 abbrev pub steppedBy : Kind → Table → Stood → Stood

@@ -1,7 +1,7 @@
 -- The declared types as the definitions' own, with a name and values for each of their cases.
 use mathlib.Core.List.{List}
 use Prim.Native.Nat.{ℕ}
-use Rattle.krivine.specs.Runs
+use Rattle.kam.specs.Runs
 use Rattle.krivine.specs.declared.Halt.{Halt}
 use Rattle.krivine.specs.declared.Halt.the-variants.{Spent, Answer, Full, Refused}
 use Rattle.krivine.specs.declared.runs.Run.{Run}

@@ -1,7 +1,7 @@
 // The index of a variable: the abstractions between it and its binder.
 ghost use mathlib.Core.Path.{_≡_};
 ghost use Rattle.term.specs.Table.{tableIn, kindOf};
-ghost use Rattle.krivine.specs.Krivine.{abstractionsIn, indexAt};
+ghost use Rattle.kam.specs.Krivine.{abstractionsIn, indexAt};
 
 // A node of kind 2 is an abstraction and counts one.
 fn abstractions_in(kind: u32) -> u32

@@ -2,7 +2,7 @@
 ghost use mathlib.Core.Path.{_≡_};
 ghost use mathlib.Core.List.{List};
 ghost use Prim.Native.Nat.{ℕ};
-ghost use Rattle.krivine.specs.Runs.{refusedRun, runOf};
+ghost use Rattle.kam.specs.Runs.{refusedRun, runOf};
 ghost use Rattle.krivine.specs.Types.{ranMeant};
 
 mod index;

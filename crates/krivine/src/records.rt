@@ -4,7 +4,7 @@ ghost use mathlib.Core.List.{[], _∷_};
 ghost use Prim.Native.Nat.{suc, _-_, _*_, _≤_};
 ghost use lib.ListN.{length, set};
 ghost use lib.Seq.{sets};
-ghost use Rattle.krivine.specs.Records.{wordIndex, fieldIn, recordBelow};
+ghost use Rattle.kam.specs.Records.{wordIndex, fieldIn, recordBelow};
 
 // Field 0 to 2 of the record of this number, and 0 where there is none.
 pub(crate) fn field(records: &[u32], number: u32, f: u32) -> u32

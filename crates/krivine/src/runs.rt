@@ -4,7 +4,7 @@ ghost use Prim.Native.Nat.{_≤_};
 ghost use lib.ListN.{length};
 ghost use Rattle.term.specs.Table.{tableIn};
 ghost use Rattle.term.specs.Accepted.{Accepted};
-ghost use Rattle.krivine.specs.Runs.{startMoment, runFrom, mostWords};
+ghost use Rattle.kam.specs.Runs.{startMoment, runFrom, mostWords};
 ghost use Rattle.krivine.specs.Types.{ranMeant};
 ghost use Rattle.krivine.specs.Standing.{stoodMeant, passOf, passMeant, Steady};
 use crate::Halt;

@@ -3,7 +3,7 @@ ghost use mathlib.Core.Path.{_≡_};
 ghost use Prim.Native.Nat.{suc, _*_, _≤_};
 ghost use lib.ListN.{length};
 ghost use Rattle.term.specs.Table.{tableIn, variable, abstraction, application};
-ghost use Rattle.krivine.specs.Runs.{mostWords};
+ghost use Rattle.kam.specs.Runs.{mostWords};
 ghost use Rattle.krivine.specs.Standing.{stoodMeant, steppedBy};
 use crate::index::index_of;
 use crate::records::field;

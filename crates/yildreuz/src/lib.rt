@@ -1,4 +1,4 @@
-// The readers, the writers, the conversions and the calls on a session for a host in another language: host/yildreuz.h declares these functions, and the structs of `face`, in C.
+// The readers, the writers, the conversions, the calls on a session and the run of Krivine's machine for a host in another language: host/yildreuz.h declares these functions, and the structs of `face`, in C.
 ghost use mathlib.Core.Path.{_≡_};
 ghost use Rattle.text.specs.Dialects.{toNumbersOf, toNamesOf};
 ghost use Rattle.text.specs.NumberReading.{readNumbersOf};
@@ -9,12 +9,14 @@ ghost use Rattle.calls.specs.Visits.{backToOf, forwardToOf};
 ghost use Rattle.calls.specs.Looks.{goOf};
 ghost use Rattle.calls.specs.Moves.{outcomeOf};
 ghost use Rattle.session.specs.Types.{outcomeMeant, lent};
+ghost use Rattle.kam.specs.Runs.{runOf};
 ghost use Rattle.face.specs.Numbers.{spotIn};
-ghost use Rattle.face.specs.Told.{readTold, writeTold, openTold, called, lookCalled, topCalled};
+ghost use Rattle.face.specs.Told.{readTold, writeTold, openTold, called, lookCalled, topCalled, runTold};
 ghost use Rattle.yildreuz.specs.Given.{moveMeant};
 
 mod numbers;
 mod parts;
+mod runs;
 mod texts;
 
 use face::HostLook;
@@ -22,6 +24,7 @@ use face::HostOpening;
 use face::HostOutcome;
 use face::HostPart;
 use face::HostReading;
+use face::HostRun;
 use face::HostSession;
 use face::HostWritten;
 use numbers::chosen_dir;
@@ -35,6 +38,7 @@ use parts::list_named;
 use parts::number_told;
 use parts::part_told;
 use parts::top_size;
+use runs::run_told;
 use session::Dir;
 use session::Outcome;
 use session::Session;
@@ -300,4 +304,12 @@ pub extern "C" fn yildreuz_go(
         ≡ called (λ g. goOf g position count) (now (table .entry)) n session (now (log .entry)) (now (tape .entry)) ⌝ }
 {
     call(table, n, session, log, tape, Move::Go(position, count))
+}
+
+// The run's answer, and the records as it leaves them.
+#[no_mangle]
+pub extern "C" fn yildreuz_run(table: &[u16], n: u32, records: &mut [u32], count: u32) -> HostRun
+    ensures { λ r. ⌜ (r, now (records .exit)) ≡ runTold (runOf (now (table .entry)) n (now (records .entry)) count) ⌝ }
+{
+    run_told(krivine::run(table, n, records, count))
 }

@@ -4,25 +4,17 @@ use mathlib.Core.Bool.{true}
 use borrow.Author.Tests.{not-true, not-false}
 use Rattle.term.specs.Accepted.{accepted}
 use Rattle.term.proofs.Accepted.{accepts-only}
-use Rattle.krivine.proofs.Numbers.{run-seven, run-sixteen, run-unrefused}
+use Rattle.kam.proofs.Numbers.{run-seven, run-sixteen, run-unrefused}
 use borrow.Author.Needs.{needs}
 use Rattle.krivine.proofs.run.Statement.{statement}
 use Rattle.krivine.proofs.run.Tie as tie
-use Rattle.krivine.proofs.run.Reads as reads
-use Rattle.krivine.proofs.run.Lts as lts
-use Rattle.krivine.proofs.refused.Reads as refused-reads
-use Rattle.krivine.proofs.runs.run_on.Reads as run-on-reads
-use Rattle.term.proofs.accepts.Reads as accepts-reads
 
--- src/lib.rt:39:9
 accepts-requires : tie.Need-accepts-requires
 accepts-requires c κs = search needs
 
--- src/lib.rt:40:9
 refused-requires : tie.Need-refused-requires
 refused-requires c κs = search needs
 
--- src/lib.rt:40:9
 returns : tie.Need-returns
 returns c =
     let a = c .before .before .before .before .before .args in
@@ -32,25 +24,20 @@ returns c =
 accepted-there : (u : tie.Else1) → (let a = u .before .before .before .before .args in accepted (a .table .now) (a .n) ≡ true)
 accepted-there u = sym (u .before .accepts .ensures) ∙ not-false _ (u .if1 .left)
 
--- src/lib.rt:43:9
 refused-requires-2 : tie.Need-refused-requires-2
 refused-requires-2 c κs = search needs
 
--- src/lib.rt:43:9
 returns-2 : tie.Need-returns-2
 returns-2 c =
     let a = c .before .before .before .before .before .before .args in
     c .refused2 .ensures (a .records .now) ∙ run-sixteen (a .table .now) (a .n) (a .records .now) (a .count) (accepted-there (c .before .before)) (c .before .if2 .taken)
 
--- src/lib.rt:45:5
 run-on-requires : tie.Need-run-on-requires
 run-on-requires c κs = let a = c .before .before .before .before .before .before .args in (accepts-only (a .table .now) (a .n) (accepted-there (c .before .before)), c .before .if2 .left)
 
--- src/lib.rt:36:1
 same-length : tie.Need-same-length
 same-length c = search needs
 
--- src/lib.rt:36:1
 returns-3 : tie.Need-returns-3
 returns-3 c =
     let a = c .before .before .before .before .before .before .before .before .before .args in

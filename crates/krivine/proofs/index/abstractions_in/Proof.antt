@@ -3,14 +3,10 @@ use mathlib.Core.Path.{sym}
 use Rattle.krivine.proofs.Climb.{abstraction-counts, other-counts}
 use Rattle.krivine.proofs.index.abstractions_in.Statement.{statement}
 use Rattle.krivine.proofs.index.abstractions_in.Tie as tie
-use Rattle.krivine.proofs.index.abstractions_in.Reads as reads
-use Rattle.krivine.proofs.index.abstractions_in.Lts as lts
 
--- src/index.rt:7:1
 returns : tie.Need-returns
 returns c = sym (abstraction-counts (c .before .args .kind) (c .if1 .taken))
 
--- src/index.rt:7:1
 returns-2 : tie.Need-returns-2
 returns-2 c = sym (other-counts (c .before .args .kind) (c .if1 .left))
 

@@ -1,19 +1,13 @@
 -- What was counted so far, with what is still to be counted, is the index.
-use mathlib.Core.Path.{_≡_, sym, ap, _∙_}
+use mathlib.Core.Path.{_≡_, ap, _∙_}
 use native.Mathlib.Omega.{arith}
 use borrow.Author.Needs.{needs}
 use Rattle.term.specs.Table.{tableIn, kindOf}
 use Rattle.term.proofs.Table.{nodes-are}
-use Rattle.krivine.specs.Krivine.{abstractionsIn, abstractionsUp, indexAt}
+use Rattle.kam.specs.Krivine.{abstractionsIn, abstractionsUp, indexAt}
 use Rattle.krivine.proofs.Climb.{one-at-most, Climbs, climb-starts, climb-ends, climb-met, climb-on}
 use Rattle.krivine.proofs.index.index_of.Statement.{statement}
 use Rattle.krivine.proofs.index.index_of.Tie as tie
-use Rattle.krivine.proofs.index.index_of.Reads as reads
-use Rattle.krivine.proofs.index.index_of.Lts as lts
-use Rattle.krivine.proofs.index.abstractions_in.Reads as abstractions-in-reads
-use Rattle.term.proofs.kind.Reads as kind-reads
-use Rattle.term.proofs.left.Reads as left-reads
-use Rattle.term.proofs.parent.Reads as parent-reads
 
 abbrev Inv-loop : tie.InvT-loop
 Inv-loop table n node binder at₀ between₀ left₀ at between left = Climbs (tableIn table n) binder at₀ n at between left
@@ -21,15 +15,12 @@ Inv-loop table n node binder at₀ between₀ left₀ at between left = Climbs (
 abbrev μ-loop : tie.MeasureT-loop
 μ-loop table n node binder at₀ between₀ left₀ at between left = left
 
--- src/index.rt:17:9
 left-requires : tie.Need-left-requires Inv-loop μ-loop
 left-requires c κs = tt
 
--- src/index.rt:18:9
 parent-requires : tie.Need-parent-requires Inv-loop μ-loop
 parent-requires c κs = tt
 
--- src/index.rt:21:5
 loop-holds : tie.Need-loop-holds Inv-loop μ-loop
 loop-holds c = climb-starts
 
@@ -40,44 +31,35 @@ whole l =
     let a = l .before .before .before .before .args in
     rw (l .before .before .left .ensures, l .before .parent .ensures, nodes-are (a .table .now) (a .n))
 
--- src/index.rt:23:13
 returns : tie.Need-returns Inv-loop μ-loop
 returns c =
     let l = c .before .before .loop in
     climb-met (l .inv) (omega arith) (c .if1 .taken) ∙ whole (c .before .before)
 
--- src/index.rt:25:36
 kind-requires : tie.Need-kind-requires Inv-loop μ-loop
 kind-requires c κs = tt
 
--- src/index.rt:25:20
 abstractions-in-requires : tie.Need-abstractions-in-requires Inv-loop μ-loop
 abstractions-in-requires c κs = tt
 
--- src/index.rt:25:9
 add-between : tie.Need-add-between Inv-loop μ-loop
 add-between c = let l = c .before .before .before .before .loop in omega (arith, l .inv .few, c .abstractions-in .ensures, one-at-most (kindOf (c .before .kind .result)))
 
--- src/index.rt:26:9
 parent-requires-2 : tie.Need-parent-requires-2 Inv-loop μ-loop
 parent-requires-2 c κs = tt
 
--- src/index.rt:27:9
 sub-left : tie.Need-sub-left Inv-loop μ-loop
 sub-left c = search needs
 
--- src/index.rt:21:5
 loop-less : tie.Need-loop-less Inv-loop μ-loop
 loop-less c = search needs
 
--- src/index.rt:21:5
 loop-again : tie.Need-loop-again Inv-loop μ-loop
 loop-again c =
     let l = c .before .before .before .before .before .loop in
     let kind-is = c .before .before .kind .ensures in
     climb-on (l .inv) (omega arith) (c .before .before .before .if1 .left) (c .before .abstractions-in .ensures ∙ ap (λ k. abstractionsIn (kindOf k)) kind-is) (c .parent2 .ensures)
 
--- src/index.rt:14:1
 returns-2 : tie.Need-returns-2 Inv-loop μ-loop
 returns-2 c =
     let l = c .before .loop in

@@ -6,52 +6,39 @@ use Rattle.krivine.proofs.Words.{three-stored}
 use borrow.Author.Needs.{needs}
 use Rattle.krivine.proofs.records.put_record.Statement.{statement}
 use Rattle.krivine.proofs.records.put_record.Tie as tie
-use Rattle.krivine.proofs.records.put_record.Reads as reads
-use Rattle.krivine.proofs.records.put_record.Lts as lts
 
--- src/records.rt:38:14
 mul-at : tie.Need-mul-at
 mul-at c = search needs
 
--- src/records.rt:39:5
 mul-records : tie.Need-mul-records
 mul-records c = search needs
 
--- src/records.rt:39:5
 slice-write-records : tie.Need-slice-write-records
 slice-write-records c = search needs
 
--- src/records.rt:40:13
 add-records : tie.Need-add-records
 add-records c = search needs
 
--- src/records.rt:40:5
 mul-records-2 : tie.Need-mul-records-2
 mul-records-2 c = search needs
 
--- src/records.rt:40:5
 slice-write-records-2 : tie.Need-slice-write-records-2
 slice-write-records-2 c = let a = c .args in omega (arith, c .pre, length-set (a .records .now) (3 * a .taken) (a .node))
 
--- src/records.rt:41:13
 add-records-2 : tie.Need-add-records-2
 add-records-2 c = search needs
 
--- src/records.rt:41:5
 mul-records-3 : tie.Need-mul-records-3
 mul-records-3 c = search needs
 
--- src/records.rt:41:5
 slice-write-records-3 : tie.Need-slice-write-records-3
 slice-write-records-3 c =
     let a = c .args in
     omega (arith, c .pre, length-set (a .records .now) (3 * a .taken) (a .node), length-set (set (a .records .now) (3 * a .taken) (a .node)) (3 * a .taken + 1) (a .environment))
 
--- src/records.rt:34:1
 same-length : tie.Need-same-length
 same-length c = search needs
 
--- src/records.rt:34:1
 returns : tie.Need-returns
 returns c = let a = c .args in three-stored (a .records .now) (a .taken) (a .node) (a .environment) (a .next)
 

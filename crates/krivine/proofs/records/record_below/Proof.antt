@@ -3,13 +3,10 @@ use mathlib.Core.Path.{_≡_, refl, sym, ap, _∙_}
 use Prim.Native.Nat.{_-_}
 use native.Mathlib.Omega.{arith}
 use borrow.Author.Needs.{needs}
-use Rattle.krivine.specs.Records.{recordBelow}
+use Rattle.kam.specs.Records.{recordBelow}
 use Rattle.krivine.proofs.Words.{below-next}
 use Rattle.krivine.proofs.records.record_below.Statement.{statement}
 use Rattle.krivine.proofs.records.record_below.Tie as tie
-use Rattle.krivine.proofs.records.record_below.Reads as reads
-use Rattle.krivine.proofs.records.record_below.Lts as lts
-use Rattle.krivine.proofs.records.field.Reads as field-reads
 
 abbrev Inv-loop : tie.InvT-loop
 Inv-loop records top depth number₀ left₀ number left = recordBelow left records number ≡ recordBelow depth records top
@@ -17,30 +14,24 @@ Inv-loop records top depth number₀ left₀ number left = recordBelow left reco
 abbrev μ-loop : tie.MeasureT-loop
 μ-loop records top depth number₀ left₀ number left = left
 
--- src/records.rt:26:5
 loop-holds : tie.Need-loop-holds Inv-loop μ-loop
 loop-holds c = refl
 
--- src/records.rt:27:9
 field-requires : tie.Need-field-requires Inv-loop μ-loop
 field-requires c κs = search needs
 
--- src/records.rt:28:9
 sub-left : tie.Need-sub-left Inv-loop μ-loop
 sub-left c = search needs
 
--- src/records.rt:26:5
 loop-less : tie.Need-loop-less Inv-loop μ-loop
 loop-less c = search needs
 
--- src/records.rt:26:5
 loop-again : tie.Need-loop-again Inv-loop μ-loop
 loop-again c =
     let a = c .before .before .before .before .args in
     let l = c .before .before .loop in
     ap (recordBelow (l .left - 1) (a .records .now)) (c .field .ensures) ∙ below-next (a .records .now) (l .left) (l .number) (omega arith) ∙ l .inv
 
--- src/records.rt:21:1
 returns : tie.Need-returns Inv-loop μ-loop
 returns c =
     let a = c .before .before .before .args in

@@ -1,20 +1,13 @@
 -- One pass, by the number of the node's kind.
 use mathlib.Core.Path.{_≡_, sym, ap, _∙_}
 use native.Mathlib.Omega.{arith}
-use Rattle.term.specs.Table.{tableIn, abstraction, application, variable, kindOf, kindAt}
+use Rattle.term.specs.Table.{tableIn, abstraction, application, kindOf, kindAt}
 use Rattle.krivine.specs.Standing.{stoodMeant}
 use Rattle.krivine.proofs.Passing.{kind-two, kind-three, kind-one, pass-answer, pass-bound, pass-full, pass-applied, pass-fetched}
 use borrow.Author.Needs.{needs}
 use Rattle.krivine.proofs.runs.one_pass.Statement.{statement}
 use Rattle.krivine.proofs.runs.one_pass.Tie as tie
-use Rattle.krivine.proofs.runs.one_pass.Reads as reads
-use Rattle.krivine.proofs.runs.one_pass.Lts as lts
-use Rattle.krivine.proofs.steps.applied.Reads as applied-reads
-use Rattle.krivine.proofs.steps.bound.Reads as bound-reads
-use Rattle.krivine.proofs.steps.fetched.Reads as fetched-reads
-use Rattle.term.proofs.kind.Reads as kind-reads
 
--- src/runs.rt:35:9
 kind-requires : tie.Need-kind-requires
 kind-requires c κs = search needs
 
@@ -25,67 +18,53 @@ abstraction-there u = ap kindOf (sym (u .before .kind .ensures)) ∙ kind-two (u
 application-there : (u : tie.Then3) → (let a = u .before .before .before .before .before .args in kindAt (tableIn (a .table .now) (a .n)) (a .at .node) ≡ application)
 application-there u = ap kindOf (sym (u .before .before .kind .ensures)) ∙ kind-three (u .before .before .kind .result) (u .if3 .taken)
 
--- src/runs.rt:38:13
 returns : tie.Need-returns
 returns c =
     let a = c .before .before .before .before .before .before .args in
     pass-answer (tableIn (a .table .now) (a .n)) (stoodMeant (a .at) (a .records .now)) (abstraction-there (c .before .before)) (c .if2 .taken)
 
--- src/runs.rt:40:13
 bound-requires : tie.Need-bound-requires
 bound-requires c κs = search needs
 
--- src/runs.rt:41:9
 same-length : tie.Need-same-length
 same-length c = search needs
 
--- src/runs.rt:41:9
 returns-2 : tie.Need-returns-2
 returns-2 c =
     let a = c .before .before .before .before .before .before .before .before .before .before .args in
     pass-bound (tableIn (a .table .now) (a .n)) (stoodMeant (a .at) (a .records .now)) _ (abstraction-there (c .before .before .before .before .before .before)) (c .before .before .before .before .if2 .left) (c .before .before .bound .ensures)
 
--- src/runs.rt:44:32
 cast-if4 : tie.Need-cast-if4
 cast-if4 c = search needs
 
--- src/runs.rt:44:28
 mul-if4 : tie.Need-mul-if4
 mul-if4 c = search needs
 
--- src/runs.rt:44:28
 add-if4 : tie.Need-add-if4
 add-if4 c = search needs
 
--- src/runs.rt:45:13
 returns-3 : tie.Need-returns-3
 returns-3 c =
     let a = c .before .before .before .before .before .before .before .args in
     pass-full (tableIn (a .table .now) (a .n)) (stoodMeant (a .at) (a .records .now)) (application-there (c .before .before)) (omega (arith, c .if4 .taken))
 
--- src/runs.rt:47:13
 applied-requires : tie.Need-applied-requires
 applied-requires c κs = search needs
 
--- src/runs.rt:48:9
 same-length-2 : tie.Need-same-length-2
 same-length-2 c = search needs
 
--- src/runs.rt:48:9
 returns-4 : tie.Need-returns-4
 returns-4 c =
     let a = c .before .before .before .before .before .before .before .before .before .before .before .args in
     pass-applied (tableIn (a .table .now) (a .n)) (stoodMeant (a .at) (a .records .now)) _ (application-there (c .before .before .before .before .before .before)) (omega (arith, c .before .before .before .before .if4 .left)) (c .before .before .applied .ensures)
 
--- src/runs.rt:50:9
 fetched-requires : tie.Need-fetched-requires
 fetched-requires c κs = search needs
 
--- src/runs.rt:31:1
 same-length-3 : tie.Need-same-length-3
 same-length-3 c = search needs
 
--- src/runs.rt:31:1
 returns-5 : tie.Need-returns-5
 returns-5 c =
     let a = c .before .before .before .before .before .before .before .args in

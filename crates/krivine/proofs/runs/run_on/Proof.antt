@@ -6,14 +6,10 @@ use borrow.Author.Needs.{needs}
 use Rattle.term.specs.Table.{tableIn}
 use Rattle.krivine.specs.Types.{haltMeant}
 use Rattle.krivine.specs.Standing.{stoodMeant}
-use Rattle.krivine.proofs.Scope.{start-sound}
+use Rattle.kam.proofs.Scope.{start-sound}
 use Rattle.krivine.proofs.Going.{Going, going-start, going-steady, going-halted, going-on, going-spent}
 use Rattle.krivine.proofs.runs.run_on.Statement.{statement}
 use Rattle.krivine.proofs.runs.run_on.Tie as tie
-use Rattle.krivine.proofs.runs.run_on.Reads as reads
-use Rattle.krivine.proofs.runs.run_on.Lts as lts
-use Rattle.krivine.proofs.runs.ended.Reads as ended-reads
-use Rattle.krivine.proofs.runs.one_pass.Reads as one-pass-reads
 
 abbrev Inv-loop : tie.InvT-loop
 Inv-loop table n records₀ count at₀ steps₀ records at steps = Going (tableIn table n) records₀ count (stoodMeant at records) steps
@@ -21,61 +17,48 @@ Inv-loop table n records₀ count at₀ steps₀ records at steps = Going (table
 abbrev μ-loop : tie.MeasureT-loop
 μ-loop table n records₀ count at₀ steps₀ records at steps = count - steps
 
--- src/runs.rt:76:5
 loop-holds : tie.Need-loop-holds Inv-loop μ-loop
 loop-holds c = let a = c .before .before .args in going-start (tableIn (a .table .now) (a .n)) (a .records .now) (a .count) (start-sound (a .table .now) (a .n) (c .before .before .pre .0))
 
--- src/runs.rt:77:13
 one-pass-requires : tie.Need-one-pass-requires Inv-loop μ-loop
 one-pass-requires c κs = let l = c .before .before .loop in going-steady _ _ _ (stoodMeant (l .at) (l .records)) (l .steps) (l .inv) (c .before .before .before .before .before .pre .1)
 
--- src/runs.rt:79:26
 enum-known-pass : tie.Need-enum-known-pass Inv-loop μ-loop
 enum-known-pass c = search needs
 
--- src/runs.rt:80:17
 ended-requires : tie.Need-ended-requires Inv-loop μ-loop
 ended-requires c κs = tt
 
--- src/runs.rt:80:17
 same-length : tie.Need-same-length Inv-loop μ-loop
 same-length c = c .before .before .before .before .before .before .one-pass .kept .1 .1 .1 .0 ∙ c .before .before .before .before .before .before .before .before .before .loop .inv .tied .past .as-long
 
--- src/runs.rt:80:17
 returns : tie.Need-returns Inv-loop μ-loop
 returns c =
     let l = c .before .before .before .before .before .before .before .before .before .loop in
     let pass-is = c .before .before .pass .given in
     rw (c .ended .ensures) (going-halted _ _ _ (stoodMeant (l .at) (l .records)) (l .steps) (l .inv) (omega arith) (haltMeant (pass-is .0 .0)) _ (rw (pass-is .1) at (c .before .before .before .before .before .before .one-pass .ensures)))
 
--- src/runs.rt:82:22
 enum-known-pass-2 : tie.Need-enum-known-pass-2 Inv-loop μ-loop
 enum-known-pass-2 c = search needs
 
--- src/runs.rt:86:9
 add-steps : tie.Need-add-steps Inv-loop μ-loop
 add-steps c = search needs
 
--- src/runs.rt:76:5
 loop-less : tie.Need-loop-less Inv-loop μ-loop
 loop-less c = search needs
 
--- src/runs.rt:76:5
 loop-again : tie.Need-loop-again Inv-loop μ-loop
 loop-again c =
     let l = c .before .before .before .before .before .before .before .before .loop in
     let pass-is = c .before .pass2 .given in
     going-on _ _ _ (stoodMeant (l .at) (l .records)) (l .steps) (l .inv) (omega arith) _ (rw (pass-is .1) at (c .before .before .before .before .before .one-pass .ensures))
 
--- src/runs.rt:88:5
 ended-requires-2 : tie.Need-ended-requires-2 Inv-loop μ-loop
 ended-requires-2 c κs = tt
 
--- src/runs.rt:65:1
 same-length-2 : tie.Need-same-length-2 Inv-loop μ-loop
 same-length-2 c = c .before .before .loop .inv .tied .past .as-long
 
--- src/runs.rt:65:1
 returns-2 : tie.Need-returns-2 Inv-loop μ-loop
 returns-2 c =
     let l = c .before .before .loop in

@@ -1,0 +1,4 @@
+pub mod Krivine
+pub mod Records
+pub mod Runs
+pub mod Lies
