@@ -11,7 +11,8 @@ use Rattle.kam.specs.Runs.{Halt, spent, Ran, Moment, moment, startMoment
 use Rattle.kam.specs.Records.{laid}
 use Rattle.kam.specs.Lies.{Ends, RunEnds}
 use Rattle.kam.proofs.Scope.{SoundState, start-sound}
-use Rattle.kam.proofs.Halting.{spent-first, tests-fail, Steps, steps}
+use Rattle.kam.proofs.Halting.{spent-first, tests-fail, Steps, steps, room}
+use Rattle.kam.proofs.Lies.{Reached, reached-start, reached-next, lies-tied}
 use Rattle.kam.proofs.Numbers.{run-unrefused}
 
 module _ (T : Table) (lent : List ℕ) where
@@ -21,16 +22,18 @@ module _ (T : Table) (lent : List ℕ) where
     reached : momentAfter T lent (q + r .steps) ≡ some last
     node-is : r .node ≡ last .state .node
     records-are : r .records ≡ last .records .words
+    tied : Reached T lent (q + r .steps) last
     within : r .steps ≤ c
     halts : haltBefore T (c - r .steps) last ≡ some (r .halt)
     not-before : (k : ℕ) (x : Moment) → k < r .steps → momentAfter T lent (q + k) ≡ some x → haltBefore T (c - k) x ≡ none
 
-  ends-here : (q c : ℕ) (m : Moment) (h : Halt) → momentAfter T lent q ≡ some m → haltBefore T c m ≡ some h → EndsFrom q c (ended m h)
-  ends-here q c m h a e = record {
+  ends-here : (q c : ℕ) (m : Moment) (h : Halt) → Reached T lent q m → momentAfter T lent q ≡ some m → haltBefore T c m ≡ some h → EndsFrom q c (ended m h)
+  ends-here q c m h t a e = record {
     last = m;
     reached = let z : q + 0 ≡ q = omega arith in ap (momentAfter T lent) z ∙ a;
     node-is = refl;
     records-are = refl;
+    tied = let z : q ≡ q + 0 = omega arith in subst (λ k. Reached T lent k m) z t;
     within = omega arith;
     halts = let z : c - 0 ≡ c = omega arith in ap (λ k. haltBefore T k m) z ∙ e;
     not-before = λ k x l g. absurd (omega arith);
@@ -42,6 +45,7 @@ module _ (T : Table) (lent : List ℕ) where
     reached = let z : q + suc (r .steps) ≡ suc q + r .steps = omega arith in ap (momentAfter T lent) z ∙ f .reached;
     node-is = f .node-is;
     records-are = f .records-are;
+    tied = let z : suc q + r .steps ≡ q + suc (r .steps) = omega arith in subst (λ k. Reached T lent k (f .last)) z (f .tied);
     within = omega (arith, f .within);
     halts = let z : suc c - suc (r .steps) ≡ c - r .steps = omega arith in ap (λ k. haltBefore T k (f .last)) z ∙ f .halts;
     not-before = before;
@@ -71,20 +75,21 @@ module _ (T : Table) (lent : List ℕ) where
   run-goes c m u e f = rw (e, f)
 
   -- by what the tests say, where the rest of the run ends as it should
-  ends-by : (c q : ℕ) (m : Moment) → SoundState T (m .state) → momentAfter T lent q ≡ some m
-      → ((u : Moment) → SoundState T (u .state) → momentAfter T lent (suc q) ≡ some u → EndsFrom (suc q) c (runFrom T c u))
+  ends-by : (c q : ℕ) (m : Moment) → SoundState T (m .state) → Reached T lent q m → momentAfter T lent q ≡ some m
+      → ((u : Moment) → SoundState T (u .state) → Reached T lent (suc q) u → momentAfter T lent (suc q) ≡ some u → EndsFrom (suc q) c (runFrom T c u))
       → (o : Option Halt) → haltBefore T (suc c) m ≡ o → EndsFrom q (suc c) (runFrom T (suc c) m)
-  ends-by c q m h a rest (some k) e = subst (EndsFrom q (suc c)) (sym (run-halts c m k e)) (ends-here q (suc c) m k a e)
-  ends-by c q m h a rest none e =
-      let s : Steps T (m .state) = steps T (m .state) h (tests-fail T (suc c) m e .0) in
+  ends-by c q m h t a rest (some k) e = subst (EndsFrom q (suc c)) (sym (run-halts c m k e)) (ends-here q (suc c) m k t a e)
+  ends-by c q m h t a rest none e =
+      let tests = tests-fail T (suc c) m e in
+      let s : Steps T (m .state) = steps T (m .state) h (tests .0) in
       let u : Moment = moment (s .to) (laid T (m .state .node) (m .records)) in
       let n : next T m ≡ some u = ap (λ o. o >>= λ x. some (moment x (laid T (m .state .node) (m .records)))) (s .made) in
-      subst (EndsFrom q (suc c)) (sym (run-goes c m u e n)) (ends-later q c m (runFrom T c u) a e (rest u (s .sound) (after-next q m u a n)))
+      subst (EndsFrom q (suc c)) (sym (run-goes c m u e n)) (ends-later q c m (runFrom T c u) a e (rest u (s .sound) (reached-next T lent q m (s .to) t (s .made) (omega (arith, room T m (t .tied .fit) (tests .1), t .tied .past .as-long))) (after-next q m u a n)))
 
-  ends-from : (c q : ℕ) (m : Moment) → SoundState T (m .state) → momentAfter T lent q ≡ some m → EndsFrom q c (runFrom T c m)
+  ends-from : (c q : ℕ) (m : Moment) → SoundState T (m .state) → Reached T lent q m → momentAfter T lent q ≡ some m → EndsFrom q c (runFrom T c m)
   unfolding runFrom
-  ends-from zero q m h a = ends-here q 0 m spent a (spent-first T m)
-  ends-from (suc c) q m h a = ends-by c q m h a (λ u s e. ends-from c (suc q) u s e) (haltBefore T (suc c) m) refl
+  ends-from zero q m h t a = ends-here q 0 m spent t a (spent-first T m)
+  ends-from (suc c) q m h t a = ends-by c q m h t a (λ u s k e. ends-from c (suc q) u s k e) (haltBefore T (suc c) m) refl
 
   from-start : (count : ℕ) (r : Ran) → EndsFrom 0 count r → Ends T lent count r
   from-start count r f = record {
@@ -92,6 +97,7 @@ module _ (T : Table) (lent : List ℕ) where
     reached = let z : 0 + r .steps ≡ r .steps = omega arith in ap (momentAfter T lent) (sym z) ∙ f .reached;
     node-is = f .node-is;
     records-are = f .records-are;
+    closures-lie = let z : 0 + r .steps ≡ r .steps = omega arith in lies-tied T lent (r .steps) (f .last) (subst (λ k. Reached T lent k (f .last)) z (f .tied));
     within = f .within;
     halts = f .halts;
     not-before = λ k x l g. let z : 0 + k ≡ k = omega arith in f .not-before k x l (ap (momentAfter T lent) z ∙ g);
@@ -105,4 +111,4 @@ pub run-ends : RunEnds
 run-ends w n A lent l count =
     let T = tableIn w n in
     subst (Ends T lent count) (run-unrefused w n lent count (accepts-all w n A) l)
-    (from-start T lent count (runFrom T count (startMoment lent)) (ends-from T lent count 0 (startMoment lent) (start-sound w n A) (at-start T lent)))
+    (from-start T lent count (runFrom T count (startMoment lent)) (ends-from T lent count 0 (startMoment lent) (start-sound w n A) (reached-start T lent) (at-start T lent)))

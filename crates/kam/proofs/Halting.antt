@@ -1,14 +1,18 @@
--- The tests before a step: spent comes first, and where none applies there is a step.
+-- The tests before a step: spent comes first, and where none applies there is a step, and room for what it takes.
 use mathlib.Core.Path.{_≡_, refl, sym, _∙_}
-use mathlib.Core.Bool.{Bool, true, false, true≢false}
+use mathlib.Core.Bool.{Bool, true, false, _&&_, true≢false}
 use mathlib.Core.Option.{Option, none, some, Option·none-ne-some}
 use mathlib.Core.List.{[], _∷_}
-use Prim.Native.Nat.{ℕ}
+use Prim.Native.Nat.{ℕ, suc, _*_, _≤_}
+use native.Mathlib.Omega.{arith}
+use lib.ListN.{length}
 use lib.Dec.{eqb}
+use borrow.Author.Tests.{ltb-false}
 use Rattle.term.specs.Choice.{_⇒_, first}
-use Rattle.term.specs.Table.{Table}
+use Rattle.term.specs.Table.{Table, Kind, variable, abstraction, application, nothing, kindAt}
 use Rattle.kam.specs.Krivine.{State, step}
-use Rattle.kam.specs.Runs.{spent, answer, full, Moment, isAnswer, isFull, haltBefore}
+use Rattle.kam.specs.Records.{Records, laidBy, laid}
+use Rattle.kam.specs.Runs.{spent, answer, full, Moment, isAnswer, isApplication, noneFree, isFull, haltBefore}
 use Rattle.kam.proofs.Scope.{SoundState, Onward, onward}
 
 -- A count that is used up is spent, whatever else applies.
@@ -39,3 +43,14 @@ module _ (T : Table) where
 
   pub steps : (s : State) → SoundState T s → isAnswer T s ≡ false → Steps s
   steps s h f = steps-by s (step T s) refl (onward T s h) f
+
+  -- room for the records that are taken after the step
+  room-by : (k : Kind) (i : ℕ) (R : Records) → 3 * R .taken ≤ length (R .words) → isApplication k && noneFree R ≡ false → 3 * laidBy k T i R .taken ≤ length (R .words)
+  unfolding laidBy
+  room-by application i R l e = ltb-false (length (R .words)) (3 * suc (R .taken)) e
+  room-by abstraction i R l e = omega arith
+  room-by variable i R l e = omega arith
+  room-by nothing i R l e = l
+
+  pub room : (m : Moment) → 3 * m .records .taken ≤ length (m .records .words) → isFull T m ≡ false → 3 * laid T (m .state .node) (m .records) .taken ≤ length (m .records .words)
+  room m l e = room-by (kindAt T (m .state .node)) (m .state .node) (m .records) l e

@@ -7,3 +7,4 @@ pub mod Lies
 pub mod Halting
 pub mod Numbers
 pub mod Ends
+pub mod ByRows

@@ -11,7 +11,7 @@ use native.Mathlib.Decide.{decLe}
 use lib.ListN.{length}
 use borrow.Author.Tests.{lt-ltb, ltb-true}
 use Rattle.term.specs.Choice.{_>>=_, ifSome}
-use Rattle.term.specs.Table.{Table, tableIn, Kind, variable, abstraction, application, nothing, kindAt}
+use Rattle.term.specs.Table.{Table, Kind, variable, abstraction, application, nothing, kindAt}
 use Rattle.term.proofs.Choice.{chained}
 use Rattle.kam.specs.Krivine.{Closure, closure, Closures, ∅, _▹_, State, step, after, newBy, madeAfter}
 use Rattle.kam.specs.Records.{environmentIn, nextIn, Records, laidBy, laid}
@@ -56,7 +56,7 @@ pub record Reached (T : Table) (lent : List ℕ) (q : ℕ) (m : Moment) : Type 0
   pub tied : Tied lent (madeAfter T q) (m .state) (m .records)
 
 module _ (T : Table) (lent : List ℕ) where
-  reached-start : Reached T lent 0 (startMoment lent)
+  pub reached-start : Reached T lent 0 (startMoment lent)
   unfolding after madeAfter
   reached-start = record { state-is = refl; tied = tied-start lent }
 
@@ -69,7 +69,7 @@ module _ (T : Table) (lent : List ℕ) where
         (tied-next lent (madeAfter T q) T (m .state) (m .records) (h .tied) (omega (arith, h .tied .past .as-long)) u e .tied);
   }
 
-  pub reached : (q : ℕ) (m : Moment) → momentAfter T lent q ≡ some m → Fit (m .records .taken) lent → Reached T lent q m
+  reached : (q : ℕ) (m : Moment) → momentAfter T lent q ≡ some m → Fit (m .records .taken) lent → Reached T lent q m
   unfolding momentAfter
   reached zero m e l = subst (Reached T lent 0) (Option·some-injective (startMoment lent) m e) reached-start
   reached (suc q) m e l =
@@ -81,7 +81,7 @@ module _ (T : Table) (lent : List ℕ) where
       let fewer : Fit (a .records .taken) lent = omega (arith, taken-grows (kindAt T (a .state .node)) T (a .state .node) (a .records)) in
       subst (Reached T lent (suc q)) is (reached-next q a (c .0) (reached q a (b .1) fewer) (c .1) fits)
 
-lies-tied : (T : Table) (lent : List ℕ) (q : ℕ) (m : Moment) → Reached T lent q m → Lies T lent q m
+pub lies-tied : (T : Table) (lent : List ℕ) (q : ℕ) (m : Moment) → Reached T lent q m → Lies T lent q m
 lies-tied T lent q m h =
     let t = h .tied in
     let w = m .records .words in
@@ -97,7 +97,7 @@ lies-tied T lent q m h =
     }
 
 pub lies : AlwaysLies
-lies w n A lent q m e l = lies-tied (tableIn w n) lent q m (reached (tableIn w n) lent q m e l)
+lies T lent q m e l = lies-tied T lent q m (reached T lent q m e l)
 
 -- The test of a free record says what the words do.
 pub full-exactly : (R : Records) → Fit (R .taken) (R .words) → (noneFree R ≡ true) ↔ AsManyAsFit R

@@ -1,4 +1,4 @@
--- What holds of Krivine's machine on an accepted table: how its closures lie in the records at every step, where a run ends, that it is never stuck, and what the index is.
+-- What holds of Krivine's machine: how its closures lie in the records at every step; and on an accepted table, where a run ends, that the machine is never stuck, and what the index is.
 use mathlib.Core.Path.{_≡_}
 use mathlib.Core.Bool.{true}
 use mathlib.Core.Option.{none, some}
@@ -46,17 +46,17 @@ pub record Lies (T : Table) (lent : List ℕ) (q : ℕ) (m : Moment) : Type 0 wh
   pub as-long : length (m .records .words) ≡ length lent
   pub past-kept : drop (3 * m .records .taken) (m .records .words) ≡ drop (3 * m .records .taken) lent
 
--- At every step that finds no more taken than fit (`lies`, proofs/Lies.antt).
+-- At every step, as long as no more records are taken than fit (`lies`, proofs/Lies.antt).
 abbrev pub AlwaysLies : Type 0
-AlwaysLies = (w : List ℕ) (n : ℕ) → Accepted w n → (lent : List ℕ) (q : ℕ) (m : Moment)
-    → momentAfter (tableIn w n) lent q ≡ some m → Fit (m .records .taken) lent → Lies (tableIn w n) lent q m
+AlwaysLies = (T : Table) (lent : List ℕ) (q : ℕ) (m : Moment) → momentAfter T lent q ≡ some m → Fit (m .records .taken) lent → Lies T lent q m
 
--- Where a run by a count ends: it stands where the machine does after as many steps, a test applies there, and none did before.
+-- Where a run by a count ends: it stands where the machine does after as many steps, with the closures in the records, a test applies there, and none did before.
 pub record Ends (T : Table) (lent : List ℕ) (count : ℕ) (r : Ran) : Type 0 where
   pub last : Moment
   pub reached : momentAfter T lent (r .steps) ≡ some last
   pub node-is : r .node ≡ last .state .node
   pub records-are : r .records ≡ last .records .words
+  pub closures-lie : Lies T lent (r .steps) last
   pub within : r .steps ≤ count
   pub halts : haltBefore T (count - r .steps) last ≡ some (r .halt)
   pub not-before : (q : ℕ) (m : Moment) → q < r .steps → momentAfter T lent q ≡ some m → haltBefore T (count - q) m ≡ none

@@ -3,19 +3,19 @@ use mathlib.Core.Path.{_≡_, refl, sym, ap, _∙_, subst, subst⁻¹}
 use mathlib.Core.Bool.{Bool, true, false, _&&_, false≢true}
 use mathlib.Core.Option.{Option, none, some, Option·none-ne-some}
 use mathlib.Core.List.{List, [], _∷_, _++_}
-use Prim.Native.Nat.{ℕ, suc, _+_, _-_, _*_, _≤_, _<_}
+use Prim.Native.Nat.{ℕ, suc, _+_, _-_, _≤_, _<_}
 use native.Mathlib.Omega.{arith}
 use lib.ListN.{length}
-use borrow.Author.Tests.{eq-eqb, ne-eqb, ltb-false}
+use borrow.Author.Tests.{eq-eqb, ne-eqb}
 use Rattle.term.specs.Choice.{_⇒_, first, ifSome}
 use Rattle.term.specs.Table.{Table, Kind, variable, abstraction, application, nothing, kindAt}
 use Rattle.kam.specs.Krivine.{Closure, Closures, ∅, _▹_, State, state, startState, stepBy, step, newBy}
-use Rattle.kam.specs.Records.{Records, noRecords, laidBy, laid}
+use Rattle.kam.specs.Records.{Records, noRecords, laid}
 use Rattle.kam.specs.Runs.{Halt, spent, answer, full, Ran, Moment, moment, startMoment, next, isAnswerBy, isAnswer, isApplication, noneFree, isFull, haltBefore, ended, longer, runFrom, mostWords}
 use Rattle.krivine.specs.Standing.{Stood, stood, steppedBy, haltBy, Passed, on, halted, passOf, Steady}
 use Rattle.kam.proofs.Chains.{StackChain}
 use Rattle.kam.proofs.Scope.{SoundState, Onward, onward}
-use Rattle.kam.proofs.Halting.{tests-fail, Steps, steps as steps-from}
+use Rattle.kam.proofs.Halting.{room, tests-fail, Steps, steps as steps-from}
 use Rattle.kam.proofs.Tied.{Tied, tied-start, Next, tied-next}
 
 -- what a pass says
@@ -173,13 +173,6 @@ module _ (T : Table) (lent : List ℕ) (count : ℕ) where
       one-more : (r : Ran) → further (steps + 1) r ≡ further steps (longer r)
       one-more r = let z : steps + 1 + r .steps ≡ steps + suc (r .steps) = omega arith in λ i. record { node = r .node; steps = z i; halt = r .halt; records = r .records }
 
-      room-by : (k : Kind) (i : ℕ) → isApplication k && noneFree R ≡ false → 3 * laidBy k T i R .taken ≤ length (R .words)
-      unfolding laidBy
-      room-by application i e = ltb-false (length (R .words)) (3 * suc (R .taken)) e
-      room-by abstraction i e = g .tied .fit
-      room-by variable i e = g .tied .fit
-      room-by nothing i e = g .tied .fit
-
       run-on : (c : ℕ) (u : State) → o ≡ none → step T s ≡ some u → runFrom T (suc c) m ≡ longer (runFrom T c (moment u (laid T (s .node) R)))
       unfolding runFrom
       run-on c u e f = rw (tests-are c ∙ e, f)
@@ -208,7 +201,7 @@ module _ (T : Table) (lent : List ℕ) (count : ℕ) where
           u = made .to
 
           after : Next lent (g .made ++ newBy (kindAt T (s .node)) T s) T (kindAt T (s .node)) (s .node) R u
-          after = tied-next lent (g .made) T s R (g .tied) (room-by (kindAt T (s .node)) (s .node) (tests .1)) u (made .made)
+          after = tied-next lent (g .made) T s R (g .tied) (room T m (g .tied .fit) (tests .1)) u (made .made)
 
           to-is : y ≡ steppedBy (kindAt T (s .node)) T (stood (s .node) R)
           to-is = p .1 ∙ ap (λ i. steppedBy (kindAt T i) T (stood i R)) (g .node-is)

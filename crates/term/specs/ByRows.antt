@@ -52,6 +52,6 @@ abbrev pub sightBy : Layout → List ℕ → ℕ → Sight
 sightBy L w n = record { fields = tableBy L w n; passes = isTable (length w) n (tableBy L w n) }
 
 -- "every call on the columns gives the answer the five-word rows gave": whatever is lent, a call sees the same in it as by rows in its rows. `kind`, `left`, `right`, `parent`, `level` and
--- `accepts` answer no more than this; `text` and `calls` have the other calls (their specs/ByRows.antt).
+-- `accepts` answer no more than this; `text`, `calls` and `kam` have the other calls (their specs/ByRows.antt).
 abbrev pub SameSight : Type 0
 SameSight = (w : List ℕ) (n : ℕ) → sight w n ≡ sightBy rows (byRows w n) n
