@@ -74,8 +74,9 @@
    which may be billions where the count, or the way to the position, is that long. A viewer that must stay awake winds
    in pieces, and one that winds far does so by large counts rather than by many small ones. back_to has no count: it may
    wind back to position 0, and forward again where there is no visit, however great the position is. A look makes the steps
-   that it tells of, and as many back. A run looks over the table alone, and with a great count it ends all the same, as
-   answer or full: each application takes a record, and none is given back.
+   that it tells of, and as many back. A run looks over the table alone; a variable's step may
+   look at as many nodes and records as there are. However great its count, a run comes to answer or full in the end, since
+   each application takes a record and none is given back; this is argued, and not proved.
 
    Stack. A call needs no more than the constants below say: measured on the deepest texts and tables that there are, and
    rounded up. */

@@ -104,7 +104,7 @@ class Top(NamedTuple):
     refusal: int
 
 
-class Ran(NamedTuple):
+class Run(NamedTuple):
     node: int
     steps: int
     halt: int
@@ -135,7 +135,7 @@ _Opening = _struct(Opening, session=_Session)
 _Outcome = _struct(Outcome, session=_Session, carried=ctypes.c_uint64)
 _Look = _struct(Look, carried=ctypes.c_uint64)
 _Part = _struct(Part)
-_Ran = _struct(Ran)
+_Run = _struct(Run)
 
 
 def _told(shape, struct):
@@ -207,7 +207,7 @@ class Library:
         self._look = self._call(lib.yildreuz_look, _Look, winding)
         self._go = self._call(lib.yildreuz_go, _Outcome, winding + [_WORD])
         self._top = self._call(lib.yildreuz_top, _Part, winding + [_WORDS])
-        self._run = self._call(lib.yildreuz_run, _Ran, [_COLUMNS, _LEN, _WORD, _WORDS, _LEN, _WORD])
+        self._run = self._call(lib.yildreuz_run, _Run, [_COLUMNS, _LEN, _WORD, _WORDS, _LEN, _WORD])
 
     @staticmethod
     def _call(function, restype, argtypes):
@@ -281,7 +281,7 @@ class Library:
     def run(self, table, n, records, count):
         """Runs Krivine's machine for count steps, or fewer if another halt comes first, with its closures in the records."""
         table, records = _lent((_TABLE, table), (_LIST, records))
-        return _told(Ran, self._run(*table, _word(n), *records, _word(count)))
+        return _told(Run, self._run(*table, _word(n), *records, _word(count)))
 
     @staticmethod
     def _lay_out(call, text, table):

@@ -302,7 +302,7 @@ def expected_run(w, n, records, count):
     """The answer of a run; the records are a list, changed in place."""
     node, steps, halt = reference.run(w, n, records, count)
     name, *value = halt.split()
-    return yildreuz.Ran(node, steps, yildreuz.HALT_NAMES.index(name), int(*value))
+    return yildreuz.Run(node, steps, yildreuz.HALT_NAMES.index(name), int(*value))
 
 
 # ---- what a refusal or a jam came of

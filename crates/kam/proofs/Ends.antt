@@ -7,7 +7,7 @@ use native.Mathlib.Omega.{arith}
 use Rattle.term.specs.Choice.{_>>=_}
 use Rattle.term.specs.Table.{Table, tableIn}
 use Rattle.term.proofs.Accepted.{accepts-all}
-use Rattle.kam.specs.Runs.{Halt, spent, Ran, Moment, moment, startMoment, next, momentAfter, haltBefore, ended, longer, runFrom}
+use Rattle.kam.specs.Runs.{Halt, spent, Ran, Moment, moment, startMoment, nextMoment, momentAfter, haltBefore, ended, longer, runFrom}
 use Rattle.kam.specs.Records.{laid}
 use Rattle.kam.specs.Lies.{Ends, RunEnds}
 use Rattle.kam.proofs.Scope.{SoundState, start-sound}
@@ -22,10 +22,17 @@ module _ (T : Table) (lent : List ℕ) where
     reached : momentAfter T lent (q + r .steps) ≡ some last
     node-is : r .node ≡ last .state .node
     records-are : r .records ≡ last .records .words
-    tied : Reached T lent (q + r .steps) last
     within : r .steps ≤ c
     halts : haltBefore T (c - r .steps) last ≡ some (r .halt)
     not-before : (k : ℕ) (x : Moment) → k < r .steps → momentAfter T lent (q + k) ≡ some x → haltBefore T (c - k) x ≡ none
+    always-reached : (k : ℕ) (x : Moment) → k ≤ r .steps → momentAfter T lent (q + k) ≡ some x → Reached T lent (q + k) x
+
+  -- the moment after no further step
+  at-once : (q : ℕ) (m x : Moment) → Reached T lent q m → momentAfter T lent q ≡ some m → momentAfter T lent (q + 0) ≡ some x → Reached T lent (q + 0) x
+  at-once q m x t a g =
+      let z : q ≡ q + 0 = omega arith in
+      let is : m ≡ x = Option·some-injective m x (sym a ∙ ap (momentAfter T lent) z ∙ g) in
+      subst (λ k. Reached T lent k x) z (subst (Reached T lent q) is t)
 
   ends-here : (q c : ℕ) (m : Moment) (h : Halt) → Reached T lent q m → momentAfter T lent q ≡ some m → haltBefore T c m ≡ some h → EndsFrom q c (ended m h)
   ends-here q c m h t a e = record {
@@ -33,24 +40,34 @@ module _ (T : Table) (lent : List ℕ) where
     reached = let z : q + 0 ≡ q = omega arith in ap (momentAfter T lent) z ∙ a;
     node-is = refl;
     records-are = refl;
-    tied = let z : q ≡ q + 0 = omega arith in subst (λ k. Reached T lent k m) z t;
     within = omega arith;
     halts = let z : c - 0 ≡ c = omega arith in ap (λ k. haltBefore T k m) z ∙ e;
     not-before = λ k x l g. absurd (omega arith);
+    always-reached = only;
   }
+    where
+      only : (k : ℕ) (x : Moment) → k ≤ 0 → momentAfter T lent (q + k) ≡ some x → Reached T lent (q + k) x
+      only zero x l g = at-once q m x t a g
+      only (suc k) x l g = absurd (omega arith)
 
-  ends-later : (q c : ℕ) (m : Moment) (r : Ran) → momentAfter T lent q ≡ some m → haltBefore T (suc c) m ≡ none → EndsFrom (suc q) c r → EndsFrom q (suc c) (longer r)
-  ends-later q c m r a e f = record {
+  ends-later : (q c : ℕ) (m : Moment) (r : Ran) → Reached T lent q m → momentAfter T lent q ≡ some m → haltBefore T (suc c) m ≡ none → EndsFrom (suc q) c r → EndsFrom q (suc c) (longer r)
+  ends-later q c m r t a e f = record {
     last = f .last;
     reached = let z : q + suc (r .steps) ≡ suc q + r .steps = omega arith in ap (momentAfter T lent) z ∙ f .reached;
     node-is = f .node-is;
     records-are = f .records-are;
-    tied = let z : suc q + r .steps ≡ q + suc (r .steps) = omega arith in subst (λ k. Reached T lent k (f .last)) z (f .tied);
     within = omega (arith, f .within);
     halts = let z : suc c - suc (r .steps) ≡ c - r .steps = omega arith in ap (λ k. haltBefore T k (f .last)) z ∙ f .halts;
     not-before = before;
+    always-reached = always;
   }
     where
+      always : (k : ℕ) (x : Moment) → k ≤ suc (r .steps) → momentAfter T lent (q + k) ≡ some x → Reached T lent (q + k) x
+      always zero x l g = at-once q m x t a g
+      always (suc k) x l g =
+          let z : q + suc k ≡ suc q + k = omega arith in
+          subst (λ j. Reached T lent j x) (sym z) (f .always-reached k x (omega arith) (ap (momentAfter T lent) (sym z) ∙ g))
+
       before : (k : ℕ) (x : Moment) → k < suc (r .steps) → momentAfter T lent (q + k) ≡ some x → haltBefore T (suc c - k) x ≡ none
       before zero x l g =
           let z : q + 0 ≡ q = omega arith in
@@ -62,15 +79,15 @@ module _ (T : Table) (lent : List ℕ) where
           let y : suc c - suc k ≡ c - k = omega arith in
           ap (λ i. haltBefore T i x) y ∙ f .not-before k x (omega arith) (ap (momentAfter T lent) (sym z) ∙ g)
 
-  after-next : (q : ℕ) (m u : Moment) → momentAfter T lent q ≡ some m → next T m ≡ some u → momentAfter T lent (suc q) ≡ some u
+  after-next : (q : ℕ) (m u : Moment) → momentAfter T lent q ≡ some m → nextMoment T m ≡ some u → momentAfter T lent (suc q) ≡ some u
   unfolding momentAfter
-  after-next q m u a e = ap (λ o. o >>= λ x. next T x) a ∙ e
+  after-next q m u a e = ap (λ o. o >>= λ x. nextMoment T x) a ∙ e
 
   run-halts : (c : ℕ) (m : Moment) (h : Halt) → haltBefore T (suc c) m ≡ some h → runFrom T (suc c) m ≡ ended m h
   unfolding runFrom
   run-halts c m h e = rw e
 
-  run-goes : (c : ℕ) (m u : Moment) → haltBefore T (suc c) m ≡ none → next T m ≡ some u → runFrom T (suc c) m ≡ longer (runFrom T c u)
+  run-goes : (c : ℕ) (m u : Moment) → haltBefore T (suc c) m ≡ none → nextMoment T m ≡ some u → runFrom T (suc c) m ≡ longer (runFrom T c u)
   unfolding runFrom
   run-goes c m u e f = rw (e, f)
 
@@ -83,8 +100,8 @@ module _ (T : Table) (lent : List ℕ) where
       let tests = tests-fail T (suc c) m e in
       let s : Steps T (m .state) = steps T (m .state) h (tests .0) in
       let u : Moment = moment (s .to) (laid T (m .state .node) (m .records)) in
-      let n : next T m ≡ some u = ap (λ o. o >>= λ x. some (moment x (laid T (m .state .node) (m .records)))) (s .made) in
-      subst (EndsFrom q (suc c)) (sym (run-goes c m u e n)) (ends-later q c m (runFrom T c u) a e (rest u (s .sound) (reached-next T lent q m (s .to) t (s .made) (omega (arith, room T m (t .tied .fit) (tests .1), t .tied .past .as-long))) (after-next q m u a n)))
+      let n : nextMoment T m ≡ some u = ap (λ o. o >>= λ x. some (moment x (laid T (m .state .node) (m .records)))) (s .made) in
+      subst (EndsFrom q (suc c)) (sym (run-goes c m u e n)) (ends-later q c m (runFrom T c u) t a e (rest u (s .sound) (reached-next T lent q m (s .to) t (s .made) (omega (arith, room T m (t .tied .fit) (tests .1), t .tied .past .as-long))) (after-next q m u a n)))
 
   ends-from : (c q : ℕ) (m : Moment) → SoundState T (m .state) → Reached T lent q m → momentAfter T lent q ≡ some m → EndsFrom q c (runFrom T c m)
   unfolding runFrom
@@ -97,10 +114,12 @@ module _ (T : Table) (lent : List ℕ) where
     reached = let z : 0 + r .steps ≡ r .steps = omega arith in ap (momentAfter T lent) (sym z) ∙ f .reached;
     node-is = f .node-is;
     records-are = f .records-are;
-    closures-lie = let z : 0 + r .steps ≡ r .steps = omega arith in lies-tied T lent (r .steps) (f .last) (subst (λ k. Reached T lent k (f .last)) z (f .tied));
     within = f .within;
     halts = f .halts;
     not-before = λ k x l g. let z : 0 + k ≡ k = omega arith in f .not-before k x l (ap (momentAfter T lent) z ∙ g);
+    always-lie = λ k x l g.
+        let z : 0 + k ≡ k = omega arith in
+        lies-tied T lent k x (subst (λ j. Reached T lent j x) z (f .always-reached k x l (ap (momentAfter T lent) z ∙ g)));
   }
 
   at-start : momentAfter T lent 0 ≡ some (startMoment lent)

@@ -1,4 +1,4 @@
--- Document 02's machine worked out by hand on two terms: where each step leads, and every word of the records.
+-- Document 02's machine worked out by hand: on two terms where each step leads, and every word of the records; and some runs.
 use mathlib.Core.Path.{_≡_, refl}
 use mathlib.Core.Option.{Option, none, some}
 use mathlib.Core.List.{List, [], _∷_}

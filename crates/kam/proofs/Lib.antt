@@ -7,4 +7,6 @@ pub mod Lies
 pub mod Halting
 pub mod Numbers
 pub mod Ends
+pub mod Full
+pub mod Unread
 pub mod ByRows

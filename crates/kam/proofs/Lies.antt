@@ -15,7 +15,7 @@ use Rattle.term.specs.Table.{Table, Kind, variable, abstraction, application, n
 use Rattle.term.proofs.Choice.{chained}
 use Rattle.kam.specs.Krivine.{Closure, closure, Closures, ∅, _▹_, State, step, after, newBy, madeAfter}
 use Rattle.kam.specs.Records.{environmentIn, nextIn, Records, laidBy, laid}
-use Rattle.kam.specs.Runs.{Moment, moment, startMoment, next, momentAfter, Fit, AsManyAsFit, noneFree}
+use Rattle.kam.specs.Runs.{Moment, moment, startMoment, nextMoment, momentAfter, Fit, AsManyAsFit, noneFree}
 use Rattle.kam.specs.Lies.{IsTaken, Holds, Chain, HoldEach, Lies, AlwaysLies}
 use Rattle.kam.proofs.Chains.{MovedHolds, MovedChain, StackChain, MovedEach}
 use Rattle.kam.proofs.Tied.{Tied, tied-start, tied-next}
@@ -73,7 +73,7 @@ module _ (T : Table) (lent : List ℕ) where
   unfolding momentAfter
   reached zero m e l = subst (Reached T lent 0) (Option·some-injective (startMoment lent) m e) reached-start
   reached (suc q) m e l =
-      let b = chained (momentAfter T lent q) (λ x. next T x) m e in
+      let b = chained (momentAfter T lent q) (λ x. nextMoment T x) m e in
       let a = b .0 in
       let c = chained (step T (a .state)) (λ s. some (moment s (laid T (a .state .node) (a .records)))) m (b .2) in
       let is : moment (c .0) (laid T (a .state .node) (a .records)) ≡ m = Option·some-injective _ m (c .2) in
@@ -92,6 +92,7 @@ lies-tied T lent q m h =
       stack-lies = stack-chain w k (t .M) (t .moved-taken) (m .state .stack) (suc k) (m .records .stack) (le-refl (suc k)) (t .stack);
       records-hold = hold-each w k (t .M) (t .moved-taken) (madeAfter T q) 1 (t .each);
       taken-is = t .taken-is;
+      fit = t .fit;
       as-long = t .past .as-long;
       past-kept = t .past .kept;
     }

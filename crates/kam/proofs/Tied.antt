@@ -13,6 +13,7 @@ use Rattle.term.specs.Choice.{_>>=_}
 use Rattle.term.specs.Table.{Table, Kind, variable, abstraction, application, nothing, kindAt}
 use Rattle.kam.specs.Krivine.{Closure, closure, Closures, ∅, _▹_, State, state, startState, indexAt, belowTop, entered, stepBy, step, newBy}
 use Rattle.kam.specs.Records.{wordIndex, nodeIn, environmentIn, nextIn, recordBelow, Records, noRecords, pushed, moved, fetched, laidBy, laid, nodeBy}
+use Rattle.kam.specs.Runs.{Fit}
 use Rattle.kam.specs.Lies.{IsTaken}
 use Rattle.kam.proofs.Chains.{put, put-kept, put-node, put-environment, put-next, anew, anew-kept, anew-same, anew-next, MovedHolds, MovedChain, StackChain, MovedEach, Keeps, holds-over, chain-over, stack-over, each-over, each-and}
 
@@ -29,7 +30,7 @@ pub record Tied (lent : List ℕ) (cs : List Closure) (s : State) (R : Records) 
   pub stack : StackChain (R .words) M (s .stack) (suc (R .taken)) (R .stack)
   pub each : MovedEach (R .words) M 1 cs
   pub taken-is : R .taken ≡ length cs
-  pub fit : 3 * R .taken ≤ length (R .words)
+  pub fit : Fit (R .taken) (R .words)
   pub past : Past lent (R .words) (R .taken)
 
 pub tied-start : (lent : List ℕ) → Tied lent [] startState (noRecords lent)
@@ -226,19 +227,19 @@ module _ (lent : List ℕ) (cs : List Closure) where
         )
 
 -- Whatever the kind of the node: where a step leads, and what it does to the records.
-pub record Next (lent : List ℕ) (cs : List Closure) (T : Table) (k : Kind) (i : ℕ) (R : Records) (u : State) : Type 0 where
+pub record Stepped (lent : List ℕ) (cs : List Closure) (T : Table) (k : Kind) (i : ℕ) (R : Records) (u : State) : Type 0 where
   pub tied : Tied lent cs u (laidBy k T i R)
   pub node-is : nodeBy k T i R ≡ u .node
 
-abbrev IfNext : List ℕ → List Closure → Table → Kind → ℕ → Records → Option State → Type 0
-IfNext lent cs T k i R none = Unit
-IfNext lent cs T k i R (some u) = Next lent cs T k i R u
+abbrev IfStepped : List ℕ → List Closure → Table → Kind → ℕ → Records → Option State → Type 0
+IfStepped lent cs T k i R none = Unit
+IfStepped lent cs T k i R (some u) = Stepped lent cs T k i R u
 
 module _ (lent : List ℕ) (cs : List Closure) (T : Table) (i : ℕ) (E S : Closures) (R : Records) (h : Tied lent cs (state i E S) R) where
   no-more : (u : State) (R′ : Records) → Tied lent cs u R′ → Tied lent (cs ++ []) u R′
   no-more u R′ g = subst⁻¹ (λ xs. Tied lent xs u R′) (append-nil cs) g
 
-  next-variable : (o : Option Closure) → belowTop (indexAt T i) E ≡ o → IfNext lent (cs ++ []) T variable i R (o >>= λ c. some (entered c S))
+  next-variable : (o : Option Closure) → belowTop (indexAt T i) E ≡ o → IfStepped lent (cs ++ []) T variable i R (o >>= λ c. some (entered c S))
   unfolding laidBy
   next-variable none e = tt
   next-variable (some c) e =
@@ -246,7 +247,7 @@ module _ (lent : List ℕ) (cs : List Closure) (T : Table) (i : ℕ) (E S : Clos
       record { tied = no-more (entered c S) (laidBy variable T i R) (g .0); node-is = g .1 }
 
 next-by : (k : Kind) (lent : List ℕ) (cs : List Closure) (T : Table) (i : ℕ) (E S : Closures) (R : Records) → Tied lent cs (state i E S) R
-    → 3 * laidBy k T i R .taken ≤ length (R .words) → IfNext lent (cs ++ newBy k T (state i E S)) T k i R (stepBy k T i E S)
+    → 3 * laidBy k T i R .taken ≤ length (R .words) → IfStepped lent (cs ++ newBy k T (state i E S)) T k i R (stepBy k T i E S)
 unfolding laidBy stepBy
 next-by application lent cs T i E S R h l = record { tied = tied-application lent cs E S (T .right i) i (T .left i) R h l; node-is = refl }
 next-by abstraction lent cs T i E ∅ R h l = tt
@@ -256,7 +257,7 @@ next-by variable lent cs T i E S R h l = next-variable lent cs T i E S R h (belo
 next-by nothing lent cs T i E S R h l = tt
 
 pub tied-next : (lent : List ℕ) (cs : List Closure) (T : Table) (s : State) (R : Records) → Tied lent cs s R → 3 * laid T (s .node) R .taken ≤ length (R .words)
-    → (u : State) → step T s ≡ some u → Next lent (cs ++ newBy (kindAt T (s .node)) T s) T (kindAt T (s .node)) (s .node) R u
+    → (u : State) → step T s ≡ some u → Stepped lent (cs ++ newBy (kindAt T (s .node)) T s) T (kindAt T (s .node)) (s .node) R u
 tied-next lent cs T s R h l u e =
-    subst (IfNext lent (cs ++ newBy (kindAt T (s .node)) T s) T (kindAt T (s .node)) (s .node) R) e
+    subst (IfStepped lent (cs ++ newBy (kindAt T (s .node)) T s) T (kindAt T (s .node)) (s .node) R) e
     (next-by (kindAt T (s .node)) lent cs T (s .node) (s .environment) (s .stack) R h l)

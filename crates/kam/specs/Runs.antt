@@ -35,13 +35,13 @@ abbrev pub startMoment : List ℕ → Moment
 startMoment w = moment startState (noRecords w)
 
 -- a step of the machine, and what it does to the records
-abbrev pub next : Table → Moment → Option Moment
-next T m = step T (m .state) >>= λ s. some (moment s (laid T (m .state .node) (m .records)))
+abbrev pub nextMoment : Table → Moment → Option Moment
+nextMoment T m = step T (m .state) >>= λ s. some (moment s (laid T (m .state .node) (m .records)))
 
 -- The moment after q steps on a lent slice, if there are so many.
 unfoldable pub momentAfter : Table → List ℕ → ℕ → Option Moment
 momentAfter T w zero = some (startMoment w)
-momentAfter T w (suc q) = momentAfter T w q >>= λ m. next T m
+momentAfter T w (suc q) = momentAfter T w q >>= λ m. nextMoment T m
 
 -- an abstraction, "and with the stack empty it is the answer"
 abbrev pub isAnswerBy : Kind → Closures → Bool
@@ -98,18 +98,18 @@ runFrom T zero m = ended m spent
 runFrom T (suc count) m =
     ifSome (haltBefore T (suc count) m)
     (λ h. ended m h)
-    (λ _. ifSome (next T m) (λ u. longer (runFrom T count u)) (λ _. ended m (refused 7)))
+    (λ _. ifSome (nextMoment T m) (λ u. longer (runFrom T count u)) (λ _. ended m (refused 7)))
 
 -- "over 16,383 words"
 abbrev pub mostWords : ℕ
 mostWords = 16383
 
--- "Turned away: 16, after 7, when the slice is over 16,383 words."
-abbrev pub runTests : List ℕ → ℕ → List ℕ → List (Test ℕ)
-runTests w n records = (not (accepted w n) ⇒ 7) ∷ (ltb mostWords (length records) ⇒ 16) ∷ []
+-- "Turned away: 16, after 7, when the slice is over 16,383 words." Number 7 applies where the table does not pass.
+abbrev pub runTests : Bool → List ℕ → List (Test ℕ)
+runTests passes records = (not passes ⇒ 7) ∷ (ltb mostWords (length records) ⇒ 16) ∷ []
 
 unfoldable pub runNumber : List ℕ → ℕ → List ℕ → Option ℕ
-runNumber w n records = first (runTests w n records)
+runNumber w n records = first (runTests (accepted w n) records)
 
 -- A refusal has its number for the halt and 0 for every other number, and no lent word differs.
 abbrev pub refusedRun : ℕ → List ℕ → Ran

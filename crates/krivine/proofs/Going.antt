@@ -11,12 +11,12 @@ use Rattle.term.specs.Choice.{_⇒_, first, ifSome}
 use Rattle.term.specs.Table.{Table, Kind, variable, abstraction, application, nothing, kindAt}
 use Rattle.kam.specs.Krivine.{Closure, Closures, ∅, _▹_, State, state, startState, stepBy, step, newBy}
 use Rattle.kam.specs.Records.{Records, noRecords, laid}
-use Rattle.kam.specs.Runs.{Halt, spent, answer, full, Ran, Moment, moment, startMoment, next, isAnswerBy, isAnswer, isApplication, noneFree, isFull, haltBefore, ended, longer, runFrom, mostWords}
+use Rattle.kam.specs.Runs.{Halt, spent, answer, full, Ran, Moment, moment, startMoment, isAnswerBy, isAnswer, isApplication, noneFree, isFull, haltBefore, ended, longer, runFrom, mostWords}
 use Rattle.krivine.specs.Standing.{Stood, stood, steppedBy, haltBy, Passed, on, halted, passOf, Steady}
 use Rattle.kam.proofs.Chains.{StackChain}
 use Rattle.kam.proofs.Scope.{SoundState, Onward, onward}
 use Rattle.kam.proofs.Halting.{room, tests-fail, Steps, steps as steps-from}
-use Rattle.kam.proofs.Tied.{Tied, tied-start, Next, tied-next}
+use Rattle.kam.proofs.Tied.{Tied, tied-start, Stepped, tied-next}
 
 -- what a pass says
 haltOf : Passed → Option Halt
@@ -200,7 +200,7 @@ module _ (T : Table) (lent : List ℕ) (count : ℕ) where
           u : State
           u = made .to
 
-          after : Next lent (g .made ++ newBy (kindAt T (s .node)) T s) T (kindAt T (s .node)) (s .node) R u
+          after : Stepped lent (g .made ++ newBy (kindAt T (s .node)) T s) T (kindAt T (s .node)) (s .node) R u
           after = tied-next lent (g .made) T s R (g .tied) (room T m (g .tied .fit) (tests .1)) u (made .made)
 
           to-is : y ≡ steppedBy (kindAt T (s .node)) T (stood (s .node) R)

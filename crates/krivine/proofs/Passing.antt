@@ -31,14 +31,14 @@ module _ (T : Table) (x : Stood) where
   pub pass-answer : kindAt T (x .node) ≡ abstraction → x .records .stack ≡ 0 → halted answer (x .records .words) ≡ passOf T x
   pass-answer e z = by-kind abstraction _ e (rw (eq-eqb (x .records .stack) 0 z))
 
-  pub pass-bound : (y : Stood) → kindAt T (x .node) ≡ abstraction → (x .records .stack ≡ 0 → ⊥) → y ≡ steppedBy abstraction T x → on y ≡ passOf T x
-  pass-bound y e z h = by-kind abstraction _ e (ap on h ∙ rw (ne-eqb (x .records .stack) 0 z))
+  pub pass-moved : (y : Stood) → kindAt T (x .node) ≡ abstraction → (x .records .stack ≡ 0 → ⊥) → y ≡ steppedBy abstraction T x → on y ≡ passOf T x
+  pass-moved y e z h = by-kind abstraction _ e (ap on h ∙ rw (ne-eqb (x .records .stack) 0 z))
 
   pub pass-full : kindAt T (x .node) ≡ application → length (x .records .words) < 3 * suc (x .records .taken) → halted full (x .records .words) ≡ passOf T x
   pass-full e l = by-kind application _ e (rw (lt-ltb (length (x .records .words)) (3 * suc (x .records .taken)) l))
 
-  pub pass-applied : (y : Stood) → kindAt T (x .node) ≡ application → 3 * suc (x .records .taken) ≤ length (x .records .words) → y ≡ steppedBy application T x → on y ≡ passOf T x
-  pass-applied y e l h = by-kind application _ e (ap on h ∙ rw (le-ltb (length (x .records .words)) (3 * suc (x .records .taken)) l))
+  pub pass-pushed : (y : Stood) → kindAt T (x .node) ≡ application → 3 * suc (x .records .taken) ≤ length (x .records .words) → y ≡ steppedBy application T x → on y ≡ passOf T x
+  pass-pushed y e l h = by-kind application _ e (ap on h ∙ rw (le-ltb (length (x .records .words)) (3 * suc (x .records .taken)) l))
 
   pub pass-fetched : (y : Stood) → kindAt T (x .node) ≡ variable → y ≡ steppedBy variable T x → on y ≡ passOf T x
   pass-fetched y e h = by-kind variable _ e (ap on h)

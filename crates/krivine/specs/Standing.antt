@@ -2,13 +2,13 @@
 use mathlib.Core.Path.{_≡_}
 use mathlib.Core.Option.{Option, none}
 use mathlib.Core.List.{List, [], _∷_}
-use Prim.Native.Nat.{ℕ, _*_, _≤_}
+use Prim.Native.Nat.{ℕ, _≤_}
 use lib.ListN.{length}
 use lib.Dec.{eqb}
 use Rattle.term.specs.Choice.{_⇒_, first, ifSome}
 use Rattle.term.specs.Table.{Table, Kind, variable, abstraction, application, nothing, kindAt}
 use Rattle.kam.specs.Records.{Records, laidBy, nodeBy}
-use Rattle.kam.specs.Runs.{Halt, answer, full, noneFree, mostWords}
+use Rattle.kam.specs.Runs.{Halt, answer, full, Fit, noneFree, mostWords}
 use Rattle.krivine.specs.Types.{haltMeant}
 use Rattle.krivine.specs.declared.runs.Pass.{Pass}
 use Rattle.krivine.specs.declared.runs.Pass.the-variants.{On, Halted}
@@ -58,6 +58,6 @@ passMeant (Halted h) words = halted (haltMeant h) words
 -- What a pass asks: there are few words, the taken records fit, the one on top of the stack is taken, and the node is there.
 pub record Steady (T : Table) (x : Stood) : Type 0 where
   pub few-words : length (x .records .words) ≤ mostWords
-  pub fit : 3 * x .records .taken ≤ length (x .records .words)
+  pub fit : Fit (x .records .taken) (x .records .words)
   pub top-taken : x .records .stack ≤ x .records .taken
   pub there : kindAt T (x .node) ≡ nothing → ⊥

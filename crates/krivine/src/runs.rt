@@ -9,9 +9,9 @@ ghost use Rattle.krivine.specs.Types.{ranMeant};
 ghost use Rattle.krivine.specs.Standing.{stoodMeant, passOf, passMeant, Steady};
 use crate::Halt;
 use crate::steps::Standing;
-use crate::steps::applied;
-use crate::steps::bound;
 use crate::steps::fetched;
+use crate::steps::moved;
+use crate::steps::pushed;
 
 // What a run answers: the node where it stands, the steps made, and why it ended. (It is declared here and not beside the function `run`, for Rattle refuses two names in one module
 // that differ in the case of a letter alone.)
@@ -37,14 +37,14 @@ fn one_pass(table: &[u16], n: u32, at: Standing, records: &mut [u32]) -> Pass
         if at.stack == 0 {
             return Pass::Halted(Halt::Answer);
         }
-        let to = bound(table, n, at, records);
+        let to = moved(table, n, at, records);
         return Pass::On(to);
     }
     if kind == 3 {
         if records.len() < 3 * at.taken as usize + 3 {
             return Pass::Halted(Halt::Full);
         }
-        let to = applied(table, n, at, records);
+        let to = pushed(table, n, at, records);
         return Pass::On(to);
     }
     let to = fetched(table, n, at, &records[..]);

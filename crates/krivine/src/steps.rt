@@ -20,7 +20,7 @@ pub(crate) struct Standing {
 }
 
 // From an application to its function: a new record, of argument and environment, goes onto the stack.
-pub(crate) fn applied(table: &[u16], n: u32, at: Standing, records: &mut [u32]) -> Standing
+pub(crate) fn pushed(table: &[u16], n: u32, at: Standing, records: &mut [u32]) -> Standing
     requires { ⌜ (3 * suc (at .taken) ≤ length (now records)) × (length (now records) ≤ mostWords) ⌝ }
     ensures { λ r. ⌜ stoodMeant r (now (records .exit)) ≡ steppedBy application (tableIn (now (table .entry)) n) (stoodMeant at (now (records .entry))) ⌝ }
 {
@@ -36,7 +36,7 @@ pub(crate) fn applied(table: &[u16], n: u32, at: Standing, records: &mut [u32]) 
 }
 
 // From an abstraction to its body: the record on top of the stack moves onto the environment.
-pub(crate) fn bound(table: &[u16], n: u32, at: Standing, records: &mut [u32]) -> Standing
+pub(crate) fn moved(table: &[u16], n: u32, at: Standing, records: &mut [u32]) -> Standing
     requires { ⌜ (1 ≤ at .stack) × (3 * at .stack ≤ length (now records)) ⌝ }
     ensures { λ r. ⌜ stoodMeant r (now (records .exit)) ≡ steppedBy abstraction (tableIn (now (table .entry)) n) (stoodMeant at (now (records .entry))) ⌝ }
 {

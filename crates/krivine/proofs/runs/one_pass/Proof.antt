@@ -3,7 +3,7 @@ use mathlib.Core.Path.{_≡_, sym, ap, _∙_}
 use native.Mathlib.Omega.{arith}
 use Rattle.term.specs.Table.{tableIn, abstraction, application, kindOf, kindAt}
 use Rattle.krivine.specs.Standing.{stoodMeant}
-use Rattle.krivine.proofs.Passing.{kind-two, kind-three, kind-one, pass-answer, pass-bound, pass-full, pass-applied, pass-fetched}
+use Rattle.krivine.proofs.Passing.{kind-two, kind-three, kind-one, pass-answer, pass-moved, pass-full, pass-pushed, pass-fetched}
 use borrow.Author.Needs.{needs}
 use Rattle.krivine.proofs.runs.one_pass.Statement.{statement}
 use Rattle.krivine.proofs.runs.one_pass.Tie as tie
@@ -23,8 +23,8 @@ returns c =
     let a = c .before .before .before .before .before .before .args in
     pass-answer (tableIn (a .table .now) (a .n)) (stoodMeant (a .at) (a .records .now)) (abstraction-there (c .before .before)) (c .if2 .taken)
 
-bound-requires : tie.Need-bound-requires
-bound-requires c κs = search needs
+moved-requires : tie.Need-moved-requires
+moved-requires c κs = search needs
 
 same-length : tie.Need-same-length
 same-length c = search needs
@@ -32,7 +32,7 @@ same-length c = search needs
 returns-2 : tie.Need-returns-2
 returns-2 c =
     let a = c .before .before .before .before .before .before .before .before .before .before .args in
-    pass-bound (tableIn (a .table .now) (a .n)) (stoodMeant (a .at) (a .records .now)) _ (abstraction-there (c .before .before .before .before .before .before)) (c .before .before .before .before .if2 .left) (c .before .before .bound .ensures)
+    pass-moved (tableIn (a .table .now) (a .n)) (stoodMeant (a .at) (a .records .now)) _ (abstraction-there (c .before .before .before .before .before .before)) (c .before .before .before .before .if2 .left) (c .before .before .moved .ensures)
 
 cast-if4 : tie.Need-cast-if4
 cast-if4 c = search needs
@@ -48,8 +48,8 @@ returns-3 c =
     let a = c .before .before .before .before .before .before .before .args in
     pass-full (tableIn (a .table .now) (a .n)) (stoodMeant (a .at) (a .records .now)) (application-there (c .before .before)) (omega (arith, c .if4 .taken))
 
-applied-requires : tie.Need-applied-requires
-applied-requires c κs = search needs
+pushed-requires : tie.Need-pushed-requires
+pushed-requires c κs = search needs
 
 same-length-2 : tie.Need-same-length-2
 same-length-2 c = search needs
@@ -57,7 +57,7 @@ same-length-2 c = search needs
 returns-4 : tie.Need-returns-4
 returns-4 c =
     let a = c .before .before .before .before .before .before .before .before .before .before .before .args in
-    pass-applied (tableIn (a .table .now) (a .n)) (stoodMeant (a .at) (a .records .now)) _ (application-there (c .before .before .before .before .before .before)) (omega (arith, c .before .before .before .before .if4 .left)) (c .before .before .applied .ensures)
+    pass-pushed (tableIn (a .table .now) (a .n)) (stoodMeant (a .at) (a .records .now)) _ (application-there (c .before .before .before .before .before .before)) (omega (arith, c .before .before .before .before .if4 .left)) (c .before .before .pushed .ensures)
 
 fetched-requires : tie.Need-fetched-requires
 fetched-requires c κs = search needs
@@ -78,14 +78,14 @@ one-pass-spec =
     (tie.spec
     kind-requires
     returns
-    bound-requires
+    moved-requires
     same-length
     returns-2
     cast-if4
     mul-if4
     add-if4
     returns-3
-    applied-requires
+    pushed-requires
     same-length-2
     returns-4
     fetched-requires

@@ -2,8 +2,8 @@
 use Rattle.term.specs.Table.{tableIn}
 use Rattle.krivine.proofs.Words.{application-is}
 use borrow.Author.Needs.{needs}
-use Rattle.krivine.proofs.steps.applied.Statement.{statement}
-use Rattle.krivine.proofs.steps.applied.Tie as tie
+use Rattle.krivine.proofs.steps.pushed.Statement.{statement}
+use Rattle.krivine.proofs.steps.pushed.Tie as tie
 
 right-requires : tie.Need-right-requires
 right-requires c κs = search needs
@@ -30,7 +30,7 @@ returns c =
     (c .before .before .before .before .before .before .left .result) (c .before .before .before .before .before .before .before .right .result)
     (c .before .before .before .before .before .before .left .ensures) (c .before .before .before .before .before .before .before .right .ensures) (c .before .before .before .before .put-record .ensures)
 
-pub applied-spec : {M : Type 1} → statement M
-applied-spec =
+pub pushed-spec : {M : Type 1} → statement M
+pushed-spec =
     tie.close
     (tie.spec right-requires left-requires put-record-requires add-t10 add-t11 same-length returns)

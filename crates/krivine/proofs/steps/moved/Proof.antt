@@ -2,8 +2,8 @@
 use Rattle.term.specs.Table.{tableIn}
 use Rattle.krivine.proofs.Words.{abstraction-is}
 use borrow.Author.Needs.{needs}
-use Rattle.krivine.proofs.steps.bound.Statement.{statement}
-use Rattle.krivine.proofs.steps.bound.Tie as tie
+use Rattle.krivine.proofs.steps.moved.Statement.{statement}
+use Rattle.krivine.proofs.steps.moved.Tie as tie
 
 left-requires : tie.Need-left-requires
 left-requires c κs = search needs
@@ -24,6 +24,6 @@ returns c =
     (c .before .before .before .before .before .before .left .result) (c .before .before .before .before .field .result)
     (c .before .before .before .before .before .before .left .ensures) (c .before .before .before .before .field .ensures) (c .before .before .rewrite-next .ensures)
 
-pub bound-spec : {M : Type 1} → statement M
-bound-spec =
+pub moved-spec : {M : Type 1} → statement M
+moved-spec =
     tie.close (tie.spec left-requires field-requires rewrite-next-requires same-length returns)
