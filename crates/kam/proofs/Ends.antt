@@ -83,11 +83,11 @@ module _ (T : Table) (lent : List ℕ) where
   unfolding momentAfter
   after-next q m u a e = ap (λ o. o >>= λ x. nextMoment T x) a ∙ e
 
-  run-halts : (c : ℕ) (m : Moment) (h : Halt) → haltBefore T (suc c) m ≡ some h → runFrom T (suc c) m ≡ ended m h
+  pub run-halts : (c : ℕ) (m : Moment) (h : Halt) → haltBefore T (suc c) m ≡ some h → runFrom T (suc c) m ≡ ended m h
   unfolding runFrom
   run-halts c m h e = rw e
 
-  run-goes : (c : ℕ) (m u : Moment) → haltBefore T (suc c) m ≡ none → nextMoment T m ≡ some u → runFrom T (suc c) m ≡ longer (runFrom T c u)
+  pub run-goes : (c : ℕ) (m u : Moment) → haltBefore T (suc c) m ≡ none → nextMoment T m ≡ some u → runFrom T (suc c) m ≡ longer (runFrom T c u)
   unfolding runFrom
   run-goes c m u e f = rw (e, f)
 

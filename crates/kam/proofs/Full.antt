@@ -1,7 +1,7 @@
 -- A run ends as full exactly where an application finds as many records taken as fit.
 use mathlib.Core.Path.{_≡_, refl, sym, ap, _∙_}
 use mathlib.Core.Logic.{_↔_}
-use mathlib.Core.Bool.{Bool, true, false, _&&_, false≢true}
+use mathlib.Core.Bool.{Bool, true, false, false≢true}
 use mathlib.Core.Option.{some, Option·some-injective, Option·none-ne-some}
 use mathlib.Core.List.{List, [], _∷_}
 use Prim.Native.Nat.{ℕ, zero, suc, _-_, _<_}
@@ -11,6 +11,7 @@ use lib.Dec.{eqb}
 use borrow.Author.Tests.{eqb-false, ne-eqb}
 use Rattle.term.specs.Choice.{_⇒_, first}
 use Rattle.term.specs.Table.{Table, Kind, variable, abstraction, application, nothing, kindAt}
+use Rattle.term.proofs.Choice.{each}
 use Rattle.kam.specs.Runs.{Halt, spent, answer, full, refused, Ran, Moment, isAnswer, isApplication, noneFree, isFull, AsManyAsFit, haltBefore}
 use Rattle.kam.specs.Lies.{Ends, RunFull}
 use Rattle.kam.proofs.Lies.{full-exactly}
@@ -28,10 +29,6 @@ full-last true b c e = absurd (false≢true (ap isFullHalt (Option·some-injecti
 full-last false true c e = absurd (false≢true (ap isFullHalt (Option·some-injective answer full e)))
 full-last false false true e = (refl, refl)
 full-last false false false e = absurd (Option·none-ne-some full e)
-
-both-parts : (a b : Bool) → a && b ≡ true → (a ≡ true) × (b ≡ true)
-both-parts true b e = (refl, e)
-both-parts false b e = absurd (false≢true e)
 
 application-only : (k : Kind) → isApplication k ≡ true → k ≡ application
 application-only application e = refl
@@ -58,7 +55,7 @@ module _ (T : Table) (lent : List ℕ) (count : ℕ) (r : Ran) (e : Ends T lent 
   then : r .halt ≡ full → (r .steps < count) × (kindAt T (m .state .node) ≡ application) × AsManyAsFit (m .records)
   then h =
       let t = said-full (count - r .steps) (e .halts ∙ ap some h) in
-      let p = both-parts (isApplication (kindAt T (m .state .node))) (noneFree (m .records)) (t .1) in
+      let p = each (isApplication (kindAt T (m .state .node))) (noneFree (m .records)) (t .1) in
       let some-left : count - r .steps ≡ 0 → ⊥ = eqb-false (count - r .steps) 0 (t .0) in
       (more (count - r .steps) refl some-left, application-only (kindAt T (m .state .node)) (p .0), exactly .0 (p .1))
     where

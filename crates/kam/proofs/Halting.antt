@@ -3,16 +3,16 @@ use mathlib.Core.Path.{_≡_, refl, sym, _∙_}
 use mathlib.Core.Bool.{Bool, true, false, _&&_, true≢false}
 use mathlib.Core.Option.{Option, none, some, Option·none-ne-some}
 use mathlib.Core.List.{[], _∷_}
-use Prim.Native.Nat.{ℕ, suc, _*_, _≤_}
+use Prim.Native.Nat.{ℕ, _*_, _≤_}
 use native.Mathlib.Omega.{arith}
 use lib.ListN.{length}
 use lib.Dec.{eqb}
-use borrow.Author.Tests.{ltb-false}
 use Rattle.term.specs.Choice.{_⇒_, first}
 use Rattle.term.specs.Table.{Table, Kind, variable, abstraction, application, nothing, kindAt}
 use Rattle.kam.specs.Krivine.{State, step}
 use Rattle.kam.specs.Records.{Records, laidBy, laid}
 use Rattle.kam.specs.Runs.{spent, answer, full, Moment, isAnswer, isApplication, noneFree, isFull, haltBefore}
+use Rattle.kam.proofs.Lies.{one-more-fits}
 use Rattle.kam.proofs.Scope.{SoundState, Onward, onward}
 
 -- A count that is used up is spent, whatever else applies.
@@ -47,7 +47,7 @@ module _ (T : Table) where
   -- room for the records that are taken after the step
   room-by : (k : Kind) (i : ℕ) (R : Records) → 3 * R .taken ≤ length (R .words) → isApplication k && noneFree R ≡ false → 3 * laidBy k T i R .taken ≤ length (R .words)
   unfolding laidBy
-  room-by application i R l e = ltb-false (length (R .words)) (3 * suc (R .taken)) e
+  room-by application i R l e = one-more-fits R e
   room-by abstraction i R l e = omega arith
   room-by variable i R l e = omega arith
   room-by nothing i R l e = l

@@ -1,7 +1,7 @@
 -- At every step the chains from the two tops are the machine's environment and stack, and each record holds the closure that its application step made.
 use mathlib.Core.Path.{_≡_, refl, sym, ap, _∙_, subst}
 use mathlib.Core.Logic.{_↔_}
-use mathlib.Core.Bool.{Bool, true}
+use mathlib.Core.Bool.{Bool, true, false}
 use mathlib.Core.Option.{some, Option·some-injective}
 use mathlib.Core.List.{List, [], _∷_, _++_}
 use Prim.Native.Nat.{ℕ, zero, suc, _+_, _*_, _≤_}
@@ -9,7 +9,7 @@ use native.Mathlib.Omega.{arith}
 use native.Mathlib.Nat.{le-refl}
 use native.Mathlib.Decide.{decLe}
 use lib.ListN.{length}
-use borrow.Author.Tests.{lt-ltb, ltb-true}
+use borrow.Author.Tests.{lt-ltb, ltb-true, ltb-false}
 use Rattle.term.specs.Choice.{_>>=_, ifSome}
 use Rattle.term.specs.Table.{Table, Kind, variable, abstraction, application, nothing, kindAt}
 use Rattle.term.proofs.Choice.{chained}
@@ -112,3 +112,6 @@ full-exactly R l = (
       | yes f ↦ absurd (omega (arith, h .no-more (suc (R .taken)) f))
       | no f ↦ omega arith
     ]
+
+pub one-more-fits : (R : Records) → noneFree R ≡ false → Fit (suc (R .taken)) (R .words)
+one-more-fits R e = ltb-false (length (R .words)) (3 * suc (R .taken)) e

@@ -7,7 +7,7 @@ use Prim.Native.Nat.{ℕ, suc, _+_, _-_, _≤_, _<_}
 use native.Mathlib.Omega.{arith}
 use lib.ListN.{length}
 use borrow.Author.Tests.{eq-eqb, ne-eqb}
-use Rattle.term.specs.Choice.{_⇒_, first, ifSome}
+use Rattle.term.specs.Choice.{_⇒_, first, ifSome, _>>=_}
 use Rattle.term.specs.Table.{Table, Kind, variable, abstraction, application, nothing, kindAt}
 use Rattle.kam.specs.Krivine.{Closure, Closures, ∅, _▹_, State, state, startState, stepBy, step, newBy}
 use Rattle.kam.specs.Records.{Records, noRecords, laid}
@@ -15,6 +15,7 @@ use Rattle.kam.specs.Runs.{Halt, spent, answer, full, Ran, Moment, moment, star
 use Rattle.krivine.specs.Standing.{Stood, stood, steppedBy, haltBy, Passed, on, halted, passOf, Steady}
 use Rattle.kam.proofs.Chains.{StackChain}
 use Rattle.kam.proofs.Scope.{SoundState, Onward, onward}
+use Rattle.kam.proofs.Ends.{run-halts, run-goes}
 use Rattle.kam.proofs.Halting.{room, tests-fail, Steps, steps as steps-from}
 use Rattle.kam.proofs.Tied.{Tied, tied-start, Stepped, tied-next}
 
@@ -147,8 +148,7 @@ module _ (T : Table) (lent : List ℕ) (count : ℕ) where
         (λ i. record { node = g .node-is i; steps = z i; halt = h; records = R .words }) ∙ ap (further steps) (sym e)
 
     run-halted : (c : ℕ) (h : Halt) → o ≡ some h → runFrom T (suc c) m ≡ ended m h
-    unfolding runFrom
-    run-halted c h e = rw (tests-are c ∙ e)
+    run-halted c h e = run-halts T lent c m h (tests-are c ∙ e)
 
     pub going-spent : count ≤ steps → record { node = x .node; steps = steps; halt = spent; records = R .words } ≡ runFrom T count (startMoment lent)
     unfolding runFrom
@@ -174,8 +174,7 @@ module _ (T : Table) (lent : List ℕ) (count : ℕ) where
       one-more r = let z : steps + 1 + r .steps ≡ steps + suc (r .steps) = omega arith in λ i. record { node = r .node; steps = z i; halt = r .halt; records = r .records }
 
       run-on : (c : ℕ) (u : State) → o ≡ none → step T s ≡ some u → runFrom T (suc c) m ≡ longer (runFrom T c (moment u (laid T (s .node) R)))
-      unfolding runFrom
-      run-on c u e f = rw (tests-are c ∙ e, f)
+      run-on c u e f = run-goes T lent c m (moment u (laid T (s .node) R)) (tests-are c ∙ e) (ap (λ q. q >>= λ x. some (moment x (laid T (s .node) R))) f)
 
       pub going-on : (y : Stood) → on y ≡ passOf T x → Going T lent count y (steps + 1)
       going-on y e = subst⁻¹ (λ z. Going T lent count z (steps + 1)) to-is record {
