@@ -148,29 +148,49 @@ fn greatest_on(slice: u32) -> u32 {
 }
 
 // What the line says of a slice that has room for so many words. A line that asks for too much is shown, and nothing becomes of the slice.
-fn said_of(line: &[u8], row: usize, slice: u32, capacity: usize, d: Desk) -> Change {
+fn said_of(
+    rt: &impl Print,
+    line: &[u8],
+    row: usize,
+    slice: u32,
+    capacity: usize,
+    d: Desk,
+) -> Change {
     let what = change_of(row);
     let k = number_at(line, 1) as usize;
     let has_room = is_within(what, k, capacity, size_on(d, slice));
     if has_room & (number_at(line, 2) <= greatest_on(slice)) {
         what
     } else {
-        show_wrong(line);
+        show_wrong(rt, line);
         Change::Nothing
     }
 }
 
 // Does what the line says of the log or the tape; the desk after it.
-pub(crate) fn changed(line: &[u8], row: usize, slice: u32, words: &mut [u32], d: Desk) -> Desk {
-    let what = said_of(line, row, slice, words.len(), d);
+pub(crate) fn changed(
+    rt: &impl Print,
+    line: &[u8],
+    row: usize,
+    slice: u32,
+    words: &mut [u32],
+    d: Desk,
+) -> Desk {
+    let what = said_of(rt, line, row, slice, words.len(), d);
     let k = number_at(line, 1);
     rewrite(what, words, k, number_at(line, 2));
     resized(d, slice, what, k as usize)
 }
 
 // Does what the line says of the table; the desk after it.
-pub(crate) fn table_changed(line: &[u8], row: usize, table: &mut [u16], d: Desk) -> Desk {
-    let what = said_of(line, row, 0, table.len(), d);
+pub(crate) fn table_changed(
+    rt: &impl Print,
+    line: &[u8],
+    row: usize,
+    table: &mut [u16],
+    d: Desk,
+) -> Desk {
+    let what = said_of(rt, line, row, 0, table.len(), d);
     let k = number_at(line, 1);
     rewrite_table(what, table, k, number_at(line, 2));
     resized(d, 0, what, k as usize)

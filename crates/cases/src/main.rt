@@ -1,4 +1,6 @@
 // Runs the script of cases on standard input, a command to a line. What it must print is worked out apart from it (tools/reference.py).
+#![tactic(auto)]
+
 mod command;
 mod desk;
 mod dialects;
@@ -34,11 +36,11 @@ fn stood(line: &[u8], dir: Dir) -> Session {
 }
 
 // Does what the line at an index says, where it concerns no slice.
-fn plainly(line: &[u8], at: usize, row: usize, d: Desk) -> Desk {
+fn plainly(rt: &impl Print, line: &[u8], at: usize, row: usize, d: Desk) -> Desk {
     match plain_of(row) {
         Plain::Nothing => d,
         Plain::Wrong => {
-            show_wrong(line);
+            show_wrong(rt, line);
             d
         }
         Plain::Text => with_text(d, at),
@@ -47,21 +49,22 @@ fn plainly(line: &[u8], at: usize, row: usize, d: Desk) -> Desk {
     }
 }
 
-fn accept_shown(line: &[u8], d: Desk, table: &[u16]) -> Desk {
+fn accept_shown(rt: &impl Print, line: &[u8], d: Desk, table: &[u16]) -> Desk {
     let k = least(d.table, table.len());
-    show_name(line, 1);
-    show_word(term::accepts(&table[0..k], d.n) as u32);
-    show(b"\n");
+    show_name(rt, line, 1);
+    show_word(rt, term::accepts(&table[0..k], d.n) as u32);
+    show(rt, b"\n");
     d
 }
 
-fn show_slices(d: Desk, log: &[u32], tape: &[u32]) {
-    show_slice(b" L", log, d.log_size);
-    show_slice(b" T", tape, d.tape_size);
+fn show_slices(rt: &impl Print, d: Desk, log: &[u32], tape: &[u32]) {
+    show_slice(rt, b" L", log, d.log_size);
+    show_slice(rt, b" T", tape, d.tape_size);
 }
 
 // Does what the line says of the session on what is lent, and shows the answer and both slices; of a look the slices before it too.
 fn on_session(
+    rt: &impl Print,
     line: &[u8],
     row: usize,
     d: Desk,
@@ -72,18 +75,27 @@ fn on_session(
     let k = least(d.table, table.len());
     let l = least(d.log, log.len());
     let t = least(d.tape, tape.len());
-    show_name(line, words_of(row));
+    show_name(rt, line, words_of(row));
     if is_look(row) {
-        show_slices(d, &log[..], &tape[..]);
+        show_slices(rt, d, &log[..], &tape[..]);
     }
-    let e = made(line, row, d, &table[0..k], &mut log[0..l], &mut tape[0..t]);
-    show_slices(d, &log[..], &tape[..]);
-    show(b"\n");
+    let e = made(
+        rt,
+        line,
+        row,
+        d,
+        &table[0..k],
+        &mut log[0..l],
+        &mut tape[0..t],
+    );
+    show_slices(rt, d, &log[..], &tape[..]);
+    show(rt, b"\n");
     e
 }
 
 // Does what the line at an index says; the desk after it.
 fn obey(
+    rt: &impl Print,
     script: &[u8],
     at: usize,
     d: Desk,
@@ -94,38 +106,38 @@ fn obey(
     let line = line_at(script, at);
     let row = row_of(line);
     match topic_of(row) {
-        Topic::Plain => plainly(line, at, row, d),
-        Topic::Table => table_changed(line, row, table, d),
-        Topic::Log => changed(line, row, 1, log, d),
-        Topic::Tape => changed(line, row, 2, tape, d),
-        Topic::OnText => on_text(script, line, row, d, table),
-        Topic::Accept => accept_shown(line, d, &table[..]),
-        Topic::OnSession => on_session(line, row, d, &table[..], log, tape),
-        Topic::Write => write_shown(line, dialect_of(row), d, &table[..]),
-        Topic::ReadBack => read_back_shown(line, dialect_of(row), d, table),
-        Topic::Run => run_shown(line, d, &table[..], log),
+        Topic::Plain => plainly(rt, line, at, row, d),
+        Topic::Table => table_changed(rt, line, row, table, d),
+        Topic::Log => changed(rt, line, row, 1, log, d),
+        Topic::Tape => changed(rt, line, row, 2, tape, d),
+        Topic::OnText => on_text(rt, script, line, row, d, table),
+        Topic::Accept => accept_shown(rt, line, d, &table[..]),
+        Topic::OnSession => on_session(rt, line, row, d, &table[..], log, tape),
+        Topic::Write => write_shown(rt, line, dialect_of(row), d, &table[..]),
+        Topic::ReadBack => read_back_shown(rt, line, dialect_of(row), d, table),
+        Topic::Run => run_shown(rt, line, d, &table[..], log),
     }
 }
 
-fn run(script: &[u8], table: &mut [u16], log: &mut [u32], tape: &mut [u32]) {
+fn run(rt: &impl Print, script: &[u8], table: &mut [u16], log: &mut [u32], tape: &mut [u32]) {
     let mut d = cleared(script.len());
     let mut at = 0;
     while at < script.len() {
-        d = obey(script, at, d, table, log, tape);
+        d = obey(rt, script, at, d, table, log, tape);
         at = next_line(script, at);
     }
 }
 
-fn main() {
+fn main(rt: HostRuntime) {
     // One byte more than a script may have, so that a longer one shows.
     let mut script = [0u8; 131072];
-    let got = io::read_full(0, &mut script);
+    let got = input::fill(&mut rt.stdin(), &mut script);
     if 131071 < got {
-        show_wrong(b"the script is too long");
+        show_wrong(&rt, b"the script is too long");
         return;
     }
     let mut table = [0u16; 15010];
     let mut log = [0u32; 16385];
     let mut tape = [0u32; 16385];
-    run(&script[..got], &mut table, &mut log, &mut tape);
+    run(&rt, &script[..got], &mut table, &mut log, &mut tape);
 }

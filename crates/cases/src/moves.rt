@@ -97,32 +97,56 @@ fn how_often(walks: bool, count: u32) -> u64 {
 }
 
 // Asks for the top entry of log or tape, and shows the answer. Its part may be of either: one lifetime for both.
-fn top_made<'a>(row: usize, d: Desk, table: &[u16], log: &'a [u32], tape: &'a [u32]) {
+fn top_made<'a>(
+    rt: &impl Print,
+    row: usize,
+    d: Desk,
+    table: &[u16],
+    log: &'a [u32],
+    tape: &'a [u32],
+) {
     let s = d.session;
     // Neither 0 nor a refusal, so that a number left unwritten shows.
     let mut refusal: u32 = 99;
     let part = top(table, d.n, s, log, tape, which_of(row), &mut refusal);
-    show_top(refusal, part);
+    show_top(rt, refusal, part);
 }
 
 // Looks ahead, and shows what the look tells.
-fn look_made(line: &[u8], row: usize, d: Desk, table: &[u16], log: &mut [u32], tape: &mut [u32]) {
+fn look_made(
+    rt: &impl Print,
+    line: &[u8],
+    row: usize,
+    d: Desk,
+    table: &[u16],
+    log: &mut [u32],
+    tape: &mut [u32],
+) {
     let s = d.session;
-    show_look(look(table, d.n, s, log, tape, count_of(line, row)));
+    show_look(rt, look(table, d.n, s, log, tape, count_of(line, row)));
 }
 
 // A call that leaves the session as it was.
-fn glance_made(line: &[u8], row: usize, d: Desk, table: &[u16], log: &mut [u32], tape: &mut [u32]) {
+fn glance_made(
+    rt: &impl Print,
+    line: &[u8],
+    row: usize,
+    d: Desk,
+    table: &[u16],
+    log: &mut [u32],
+    tape: &mut [u32],
+) {
     if is_look(row) {
-        look_made(line, row, d, table, log, tape);
+        look_made(rt, line, row, d, table, log, tape);
     } else {
-        top_made(row, d, table, &log[..], &tape[..]);
+        top_made(rt, row, d, table, &log[..], &tape[..]);
     }
 }
 
 // Makes the call of a line; or, in a walk, one with 0 and as many with 1 as the count says. Shows the last answer, and how many states of a walk back agree.
 // A glance, a look or one at a top entry, leaves the desk as it was.
 pub(crate) fn made(
+    rt: &impl Print,
     line: &[u8],
     row: usize,
     desk: Desk,
@@ -131,7 +155,7 @@ pub(crate) fn made(
     tape: &mut [u32],
 ) -> Desk {
     if is_glance(row) {
-        glance_made(line, row, desk, table, log, tape);
+        glance_made(rt, line, row, desk, table, log, tape);
         return desk;
     }
     let which = call_of(line, row);
@@ -153,7 +177,7 @@ pub(crate) fn made(
         steps = 1;
         left -= 1;
     }
-    show_made(row, o, agreed);
+    show_made(rt, row, o, agreed);
     let last = o.session;
     with_session(desk, last)
 }

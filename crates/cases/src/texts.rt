@@ -8,47 +8,74 @@ use crate::words::{after_parts, least, line_at};
 use crate::written::convert_shown;
 
 // Reads a text into as much of the table as is lent, and shows the answer and the table.
-fn read_shown(line: &[u8], which: Dialect, text: &[u8], d: Desk, table: &mut [u16]) -> Desk {
+fn read_shown(
+    rt: &impl Print,
+    line: &[u8],
+    which: Dialect,
+    text: &[u8],
+    d: Desk,
+    table: &mut [u16],
+) -> Desk {
     let k = least(d.table, table.len());
     let r = read_in(which, text, &mut table[0..k]);
-    show_name(line, 1);
-    show_number(b" n ", r.n);
-    show_number(b" refusal ", r.refusal);
-    show_table(&table[..], d.table_size);
-    show(b"\n");
+    show_name(rt, line, 1);
+    show_number(rt, b" n ", r.n);
+    show_number(rt, b" refusal ", r.refusal);
+    show_table(rt, &table[..], d.table_size);
+    show(rt, b"\n");
     with_nodes(d, r.n)
 }
 
 // Writes the text of the lent table, fills its words with others, reads the text into them, and shows the answer and the table. A refused text is empty,
 // and then the words stay.
-pub(crate) fn read_back_shown(line: &[u8], which: Dialect, d: Desk, table: &mut [u16]) -> Desk {
+pub(crate) fn read_back_shown(
+    rt: &impl Print,
+    line: &[u8],
+    which: Dialect,
+    d: Desk,
+    table: &mut [u16],
+) -> Desk {
     let mut text = [0u8; 3000];
     let k = least(d.table, table.len());
     let r = write_in(which, &table[0..k], d.n, &mut text);
     overwrite(r.refusal, &mut table[0..k]);
     let len = least(r.len as usize, 3000);
-    read_shown(line, which, &text[0..len], d, table)
+    read_shown(rt, line, which, &text[0..len], d, table)
 }
 
 // Converts a text, and then reads what is written, or converts it back, and shows that answer. A refused text is empty.
-fn convert_first(line: &[u8], row: usize, text: &[u8], d: Desk, table: &mut [u16]) -> Desk {
+fn convert_first(
+    rt: &impl Print,
+    line: &[u8],
+    row: usize,
+    text: &[u8],
+    d: Desk,
+    table: &mut [u16],
+) -> Desk {
     let which = dialect_of(row);
     let mut there = [0u8; 3000];
     let r = convert_to(which, text, &mut there);
     let len = least(r.len as usize, 3000);
     if is_there_and_back(row) {
-        convert_shown(line, other_than(which), &there[0..len], d)
+        convert_shown(rt, line, other_than(which), &there[0..len], d)
     } else {
-        read_shown(line, which, &there[0..len], d, table)
+        read_shown(rt, line, which, &there[0..len], d, table)
     }
 }
 
 // Does what the line says of a text.
-fn text_shown(line: &[u8], row: usize, text: &[u8], d: Desk, table: &mut [u16]) -> Desk {
+fn text_shown(
+    rt: &impl Print,
+    line: &[u8],
+    row: usize,
+    text: &[u8],
+    d: Desk,
+    table: &mut [u16],
+) -> Desk {
     match text_call_of(row) {
-        TextCall::Read => read_shown(line, dialect_of(row), text, d, table),
-        TextCall::Convert => convert_shown(line, dialect_of(row), text, d),
-        TextCall::ConvertFirst => convert_first(line, row, text, d, table),
+        TextCall::Read => read_shown(rt, line, dialect_of(row), text, d, table),
+        TextCall::Convert => convert_shown(rt, line, dialect_of(row), text, d),
+        TextCall::ConvertFirst => convert_first(rt, line, row, text, d, table),
     }
 }
 
@@ -58,13 +85,20 @@ fn text_at(script: &[u8], at: usize, text: &mut [u8]) -> usize {
 }
 
 // Does what the line says of the text that the script says.
-pub(crate) fn on_text(script: &[u8], line: &[u8], row: usize, d: Desk, table: &mut [u16]) -> Desk {
+pub(crate) fn on_text(
+    rt: &impl Print,
+    script: &[u8],
+    line: &[u8],
+    row: usize,
+    d: Desk,
+    table: &mut [u16],
+) -> Desk {
     // One byte more than a text of the script may have, so that a longer one shows.
     let mut text = [0u8; 3002];
     let len = text_at(script, d.text, &mut text);
     if 3001 < len {
-        show_wrong(line);
+        show_wrong(rt, line);
         return d;
     }
-    text_shown(line, row, &text[0..len], d, table)
+    text_shown(rt, line, row, &text[0..len], d, table)
 }

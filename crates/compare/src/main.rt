@@ -1,7 +1,10 @@
 // The program `compare` of document 02, change 11: reads one term a line from standard input, gives our machine and Krivine's 10,000 steps each, and prints how many lines were refused,
 // answered by both machines, by one, by neither, and on how many both answered at different nodes.
+#![tactic(auto)]
+
 ghost use Rattle.std.specs.Prelude.{◌<◌, ◌≤◌, length};
 
+use std::io::Read;
 use std::num::wrapping_add_u64;
 use verdict::{Verdict, judged};
 
@@ -55,8 +58,8 @@ fn take_all(counts: &mut [u64; 5], line: &mut [u8], kept: usize, bytes: &[u8]) -
     at
 }
 
-// Counts the lines of standard input that a line feed ends; how many bytes are kept of what comes after the last of them.
-fn read_lines(counts: &mut [u64; 5], line: &mut [u8]) -> usize
+// Counts the lines of the input that a line feed ends; how many bytes are kept of what comes after the last of them.
+fn read_lines<R: Read>(input: &mut R, counts: &mut [u64; 5], line: &mut [u8]) -> usize
     ensures { result ≤ length line.new }
 {
     let mut kept = 0;
@@ -64,7 +67,7 @@ fn read_lines(counts: &mut [u64; 5], line: &mut [u8]) -> usize
     // More reads than there can be: a loop has to end.
     let mut left: u64 = 0xffff_ffff_ffff_ffff;
     while 0 < left {
-        let got = io::read_full(0, &mut bytes);
+        let got = input::fill(input, &mut bytes);
         if got == 0 {
             return kept;
         }
@@ -74,27 +77,27 @@ fn read_lines(counts: &mut [u64; 5], line: &mut [u8]) -> usize
     kept
 }
 
-fn print(number: u64, end: &[u8]) {
-    let _digits = io::print_decimal(1, number);
-    let _rest = io::write_all(1, end);
+fn print(rt: &impl Print, number: u64, end: &[u8]) {
+    let _digits = rt.print(number);
+    let _rest = rt.write_all(end);
 }
 
-fn print_counts(counts: &[u64; 5]) {
-    print(counts[0], b" ");
-    print(wrapping_add_u64(counts[1], counts[2]), b" ");
-    print(counts[3], b" ");
-    print(counts[4], b" ");
-    print(counts[2], b"\n");
+fn print_counts(rt: &impl Print, counts: &[u64; 5]) {
+    print(rt, counts[0], b" ");
+    print(rt, wrapping_add_u64(counts[1], counts[2]), b" ");
+    print(rt, counts[3], b" ");
+    print(rt, counts[4], b" ");
+    print(rt, counts[2], b"\n");
 }
 
-fn main() {
+fn main(rt: HostRuntime) {
     let mut counts = [0u64; 5];
     // One byte more than a text may have, so that a longer line shows.
     let mut line = [0u8; 3001];
-    let kept = read_lines(&mut counts, &mut line);
+    let kept = read_lines(&mut rt.stdin(), &mut counts, &mut line);
     // A last line without a line feed counts if it has a byte.
     if 0 < kept {
         count(&mut counts, &line[..kept]);
     }
-    print_counts(&counts);
+    print_counts(&rt, &counts);
 }

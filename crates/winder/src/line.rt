@@ -1,6 +1,7 @@
 // Lines of output, built in a lent buffer. Each function puts what it is told at index `at` and answers the index after it; what does not fit is left out.
-ghost use Rattle.io.specs.Counts.{IsPrefixLen};
+ghost use Rattle.winder.specs.Lines.{IsPrefixLen};
 
+use itoa::Buffer;
 use session::{Dir, Session, Stop};
 
 fn put(out: &mut [u8], at: usize, b: u8) -> usize
@@ -25,9 +26,8 @@ fn put_bytes(out: &mut [u8], at: usize, s: &[u8]) -> usize {
 }
 
 fn put_number(out: &mut [u8], at: usize, n: u32) -> usize {
-    let mut digits = [0u8; 20];
-    let k = io::decimal(n as u64, &mut digits);
-    put_bytes(out, at, &digits[..k])
+    let mut digits = Buffer::new();
+    put_bytes(out, at, digits.format(n).as_bytes())
 }
 
 // The first `len` words of a slice, from the top, a blank before each.

@@ -1,0 +1,25 @@
+// Input, read into a lent buffer.
+#![tactic(auto)]
+
+ghost use Rattle.std.specs.Prelude.{◌≤◌, length};
+
+use std::io::Read;
+
+// Reads until the buffer is full, the input ends or a read fails; how many bytes stand at the buffer's start then.
+pub fn fill<R: Read>(input: &mut R, bytes: &mut [u8]) -> usize
+    ensures { result ≤ length bytes.new }
+{
+    let mut done = 0;
+    for _ in 0..u64::MAX {
+        match input.read(&mut bytes[done..]) {
+            Ok(got) => {
+                if got == 0 {
+                    break;
+                }
+                done += got;
+            }
+            Err(_) => break,
+        }
+    }
+    done
+}
