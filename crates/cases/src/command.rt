@@ -3,7 +3,7 @@ use crate::words::{has_shape, nth_part, number_at, row_in, same_bytes};
 use session::{Dir, Which};
 
 // What a command is about.
-#[derive(Drop)]
+#[derive(Clone, Copy)]
 pub(crate) enum Topic {
     Plain,
     Table,
@@ -18,7 +18,7 @@ pub(crate) enum Topic {
 }
 
 // What concerns no slice.
-#[derive(Drop)]
+#[derive(Clone, Copy)]
 pub(crate) enum Plain {
     Nothing,
     Wrong,
@@ -28,14 +28,14 @@ pub(crate) enum Plain {
 }
 
 // The two ways in which a text spells a term.
-#[derive(Drop)]
+#[derive(Clone, Copy)]
 pub(crate) enum Dialect {
     Names,
     Numbers,
 }
 
 // What becomes of the text that the script says: it is read; it is converted; it is converted first, and what is written is read or converted back.
-#[derive(Drop)]
+#[derive(Clone, Copy)]
 pub(crate) enum TextCall {
     Read,
     Convert,
@@ -43,7 +43,7 @@ pub(crate) enum TextCall {
 }
 
 // What becomes of a slice: so many words, all the same; one word; how many words a call gets; the columns of a tower; or nothing.
-#[derive(Drop)]
+#[derive(Clone, Copy)]
 pub(crate) enum Change {
     Fill,
     Set,
@@ -53,7 +53,7 @@ pub(crate) enum Change {
 }
 
 // A call that winds, or open, with the node and the direction of the visit that it looks for, if it looks for one, or the position that it goes from, if it is handed one.
-#[derive(Drop)]
+#[derive(Clone, Copy)]
 pub(crate) enum SessionCall {
     Open,
     Forward,

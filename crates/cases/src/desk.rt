@@ -4,7 +4,7 @@ use crate::show::dir_place;
 use session::{Dir, Session};
 
 // Where the script says the text; how many words each slice has and how many of them a call gets; n; the session.
-#[derive(Drop)]
+#[derive(Clone, Copy)]
 pub(crate) struct Desk {
     pub(crate) text: usize,
     pub(crate) table_size: usize,

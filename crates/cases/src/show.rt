@@ -31,7 +31,7 @@ pub(crate) fn show_word(n: u32) {
 }
 
 // A word that comes so many times in a row.
-#[derive(Drop)]
+#[derive(Clone, Copy)]
 struct Run {
     word: u32,
     times: u32,

@@ -6,7 +6,7 @@ use session::Stop;
 const STEPS: u32 = 10000;
 
 // Refused; answered by both machines at one node, or at two; by one of them; or by neither.
-#[derive(Drop)]
+#[derive(Clone, Copy)]
 pub(crate) enum Verdict {
     Refused,
     Agreed,
