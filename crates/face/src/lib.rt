@@ -1,4 +1,5 @@
 // What a host in another language holds and gets, in numbers: the structs of host/yildreuz.h.
+#![tactic(auto)]
 
 // What the readers answer. A refusal of 0 is none.
 #[repr(C)]
