@@ -1,5 +1,6 @@
 // Krivine's machine on a term's table, its closures as records in a lent slice (document 02, change 11).
 #![tactic(auto)]
+
 ghost use Rattle.std.specs.Prelude.{◌≡◌, List, ℕ};
 ghost use Rattle.kam.specs.Runs.{refused_run, run_of};
 ghost use Rattle.krivine.specs.Types.{ran_meant};

@@ -1,5 +1,6 @@
 // The writer: the table of a closed term to its text, in either dialect.
 #![tactic(auto)]
+
 ghost use Rattle.std.specs.Prelude.{◌≡◌};
 ghost use Rattle.term.specs.Accepted.{Accepted};
 ghost use Rattle.text.specs.Writing.{write_of, write_numbers_of};

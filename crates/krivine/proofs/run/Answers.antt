@@ -1,7 +1,6 @@
 -- `run` refuses by the table, then by the slice, and else runs.
 use mathlib.Core.Path.{◌≡◌, sym, ◌∙◌}
 use mathlib.Core.Bool.{true}
-use borrow.Author.Tests.{not-true, not-false}
 use Rattle.term.specs.Accepted.{accepted}
 use Rattle.term.proofs.Accepted.{accepts_only}
 use Rattle.kam.proofs.Numbers.{run_seven, run_sixteen, run_unrefused}
@@ -11,11 +10,11 @@ use Rattle.krivine.proofs.run.Goals.{Else-not-accepts}
 pub returns-then-not-accepts : goal.returns-then-not-accepts
 returns-then-not-accepts c =
     let a = c.args in
-    c.refused.ensures a.records.now ∙ run_seven a.table.now a.n a.records.now a.count (sym c.accepts.ensures ∙ not-true _ c.if-not-accepts.true)
+    c.refused.ensures a.records.now ∙ run_seven a.table.now a.n a.records.now a.count (sym c.accepts.ensures ∙ c.if-not-accepts.true)
 
 -- past the first test the table is accepted
 accepted_there : (u : Else-not-accepts) → (let a = u.args in accepted a.table.now a.n ≡ true)
-accepted_there u = sym u.accepts.ensures ∙ not-false _ u.if-not-accepts.false
+accepted_there u = sym u.accepts.ensures ∙ u.if-not-accepts.false
 
 pub returns-then-records-gt16383 : goal.returns-then-records-gt16383
 returns-then-records-gt16383 c =

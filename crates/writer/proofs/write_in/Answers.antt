@@ -2,7 +2,6 @@
 use mathlib.Core.Path.{sym, ap, ◌∙◌}
 use native.Mathlib.Omega.{arith}
 use lib.ListN.{length}
-use borrow.Author.Tests.{not-true, not-false}
 use Rattle.term.specs.Accepted.{Accepted}
 use Rattle.term.proofs.Accepted.{accepts_only}
 use Rattle.writer.specs.Types.{dialect_meant}
@@ -13,11 +12,11 @@ use Rattle.writer.proofs.write_in.Goals.{Else-not-accepts}
 pub returns-then-not-accepts : goal.returns-then-not-accepts
 returns-then-not-accepts c =
     let a = c.args in
-    rw c.refused.ensures (no_table (dialect_meant a.dialect) a.table.now a.n a.text.now (sym c.accepts.ensures ∙ not-true _ c.if-not-accepts.true))
+    rw c.refused.ensures (no_table (dialect_meant a.dialect) a.table.now a.n a.text.now (sym c.accepts.ensures ∙ c.if-not-accepts.true))
 
 -- Past the first test the table is accepted.
 accepted_table : (e : Else-not-accepts) → Accepted e.args.table.now e.args.n
-accepted_table e = accepts_only _ _ (sym e.accepts.ensures ∙ not-false _ e.if-not-accepts.false)
+accepted_table e = accepts_only _ _ (sym e.accepts.ensures ∙ e.if-not-accepts.false)
 
 pub put_text-len-requires : goal.put_text-len-requires
 put_text-len-requires c = accepted_table (goal.at.put_text-len-requires c).Else-not-accepts

@@ -1,6 +1,5 @@
 -- What is left to go down from the record found so far leads where the whole way does.
 use mathlib.Core.Path.{◌≡◌}
-use Prim.Native.Nat.{◌-◌}
 use Rattle.kam.specs.Records.{record_below}
 use Rattle.krivine.proofs.records.record_below.Given as goal
 

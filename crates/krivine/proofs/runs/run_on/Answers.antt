@@ -1,6 +1,5 @@
 -- The loop: what is left to run is the whole run.
 use mathlib.Core.Path.{◌∙◌}
-use Prim.Native.Nat.{◌-◌}
 use native.Mathlib.Omega.{arith}
 use Rattle.term.specs.Table.{table_in}
 use Rattle.krivine.specs.Types.{halt_meant}

@@ -1,7 +1,7 @@
 -- `put_numbers` puts the parts of the nodes one after another: those put so far are the text of the first nodes, whose depths are told.
 use mathlib.Core.Path.{◌≡◌, refl, ◌∙◌}
 use mathlib.Core.List.{List}
-use Prim.Native.Nat.{ℕ, ◌+◌, ◌-◌}
+use Prim.Native.Nat.{ℕ, ◌+◌}
 use native.Mathlib.Omega.{arith}
 use lib.ListN.{set, replicate, length-set, length-replicate}
 use Rattle.term.specs.Table.{table_in}
@@ -25,13 +25,9 @@ loop-node-init c =
     (omega arith, s.requires.some_node, length-replicate {A = ℕ} 3001 0, refl, λ A. (first_depths _ _ A zeros (no_depths 3001), λ o x. x))
 
 -- The first part was put before the loop, and in it those of the nodes up to this.
-first : (e : After-put_node-at) (A : Accepted e.args.table.now e.args.n)
-    → Put e.args.out.now 0 (text_to A.term 1) e.put_node-at.result e.put_node-at.new.out
-first e A = let a = e.args in first_put a.table.now a.n A zeros (no_depths 3001) e.put_node-at.ensures
-
 so_far : (e : At-loop-node) (A : Accepted e.args.table.now e.args.n)
     → Put e.args.out.now 0 (text_to A.term e.loop-node.node) e.loop-node.at e.loop-node.out
-so_far e A = (e.loop-node.invariant.4 A).1 _ (first e.before.before.before A)
+so_far e A = (e.loop-node.invariant.4 A).1 _ (first_put e.args.table.now e.args.n A zeros (no_depths 3001) e.put_node-at.ensures)
 
 pub overflow_add-node : goal.overflow_add-node
 overflow_add-node c = omega arith
