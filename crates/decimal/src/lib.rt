@@ -1,4 +1,6 @@
 // Decimal numbers in a lent slice of bytes.
+#![tactic(auto)]
+
 ghost use Rattle.std.specs.Prelude.{◌≡◌, ◌+◌, ◌<◌, set};
 ghost use Rattle.decimal.specs.Decimal.{digit_byte, put_of};
 

@@ -1,6 +1,6 @@
 -- The loop of a run: what is left to run from where it stands, with the steps made, is the whole run.
 use mathlib.Core.Path.{◌≡◌, refl, sym, ap, ◌∙◌, subst, subst⁻¹}
-use mathlib.Core.Bool.{Bool, true, false, ◌&&◌, false≢true}
+use mathlib.Core.Bool.{Bool, false, ◌&&◌, false≢true}
 use mathlib.Core.Option.{Option, none, some, none-ne-some}
 use mathlib.Core.List.{List, [], ◌∷◌, ◌++◌}
 use Prim.Native.Nat.{ℕ, suc, ◌+◌, ◌-◌, ◌≤◌, ◌<◌}
@@ -9,7 +9,7 @@ use lib.ListN.{length}
 use borrow.Author.Tests.{eq-eqb, ne_eqb}
 use Rattle.term.specs.Choice.{◌⇒◌, first, if_some, ◌>>=◌}
 use Rattle.term.specs.Table.{Table, Kind, variable, abstraction, application, nothing, kind_at}
-use Rattle.kam.specs.Krivine.{Closure, Closures, ∅, ◌▹◌, State, state, start_state, step_by, step, new_by}
+use Rattle.kam.specs.Krivine.{Closure, Closures, ∅, ◌▹◌, State, start_state, step_by, step, new_by}
 use Rattle.kam.specs.Records.{Records, no_records, laid}
 use Rattle.kam.specs.Runs.{Halt, spent, answer, full, Ran, Moment, moment, start_moment, is_answer_by, is_answer, is_application, none_free, is_full, halt_before, ended, longer, run_from, most_words}
 use Rattle.krivine.specs.Standing.{Stood, stood, stepped_by, halt_by, Passed, on, halted, pass_of, Steady}

@@ -1,4 +1,6 @@
 // Krivine's machine on a term's table, its closures as records in a lent slice (document 02, change 11).
+#![tactic(auto)]
+
 ghost use Rattle.std.specs.Prelude.{◌≡◌, List, ℕ};
 ghost use Rattle.kam.specs.Runs.{refused_run, run_of};
 ghost use Rattle.krivine.specs.Types.{ran_meant};
@@ -12,7 +14,7 @@ pub use runs::Run;
 use runs::run_on;
 
 // Why a run ended. A refusal's number comes in its place.
-#[derive(Drop)]
+#[derive(Clone, Copy)]
 pub enum Halt {
     Spent,
     Answer,

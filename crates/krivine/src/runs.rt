@@ -11,7 +11,7 @@ use crate::steps::{Standing, fetched, moved, pushed};
 
 // What a run answers: the node where it stands, the steps made, and why it ended. (It is declared here and not beside the function `run`, for Rattle refuses two names in one module
 // that differ in the case of a letter alone.)
-#[derive(Drop)]
+#[derive(Clone, Copy)]
 pub struct Run {
     pub node: u32,
     pub steps: u32,
@@ -19,7 +19,7 @@ pub struct Run {
 }
 
 // One pass of the loop: on to where a step leads, or halted.
-#[derive(Drop)]
+#[derive(Clone, Copy)]
 pub(crate) enum Pass {
     On(Standing),
     Halted(Halt),

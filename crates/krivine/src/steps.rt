@@ -8,7 +8,7 @@ use crate::index::index_of;
 use crate::records::{field, put_record, record_below, rewrite_next};
 
 // Where a run stands: its node, the records on top of environment and stack, 0 for none, and how many records are taken.
-#[derive(Drop)]
+#[derive(Clone, Copy)]
 pub(crate) struct Standing {
     pub node: u32,
     pub environment: u32,

@@ -10,7 +10,7 @@ use Rattle.term.specs.Facts.{Facts}
 use Rattle.term.proofs.Choice.{passes}
 use Rattle.machine.specs.Entries.{entry, Log, ε, ◌▸◌, how_many, bullet, held, Tape}
 use Rattle.machine.specs.Machine.{Dir, down, up, State, state, bound_at, go_down, go_up, step_by, step, turned, step_back}
-use Rattle.machine.proofs.Tests.{bound_at}
+use Rattle.machine.proofs.Tests.{bound_at_lem}
 use Rattle.machine.proofs.Nodes.{Placed, placed}
 use Rattle.machine.proofs.Reverse.{step_turned}
 use Rattle.machine.proofs.Stuck.{Stuck, stuck_unbound}
@@ -56,7 +56,7 @@ module _ (T : Table) where
   arrived_down i abstraction e L (bullet ∷ t) = λ c k. absurd (subst IsDown c tt)
   arrived_down i abstraction e L (held (entry v es) ∷ t) = led_test UpBound (bound_at T i v) _ (λ b c k.
       absurd (false≢true (ap is_variable (sym k) ∙ ((and-eq-true_iff (is_variable (kind_at T v)) (eqb (T.left v) i)).0 b).0)))
-  arrived_down i variable e L t = led_test UpBound (leb (arity T i) (how_many L)) _ (λ b c k. bound_at T i e)
+  arrived_down i variable e L t = led_test UpBound (leb (arity T i) (how_many L)) _ (λ b c k. bound_at_lem T i e)
   arrived_down i nothing e L t = tt
 
   arrived_up : (i : ℕ) (q : Place) → Placed T i q → (L : Log) (t : Tape) → Led UpBound (go_up T q L t)

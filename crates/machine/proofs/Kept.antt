@@ -15,7 +15,7 @@ use Rattle.machine.specs.Entries.{Entry, entry, Log, ε, ◌▸◌, how_many, to
 use Rattle.machine.specs.Machine.{Dir, down, up, State, state, start_state, bound_at, go_down, go_up, step_by, step, turned, turn, after_from}
 use Rattle.machine.specs.Good.{TapeIn, Good}
 use Rattle.machine.proofs.Logs.{topmost_rest}
-use Rattle.machine.proofs.Tests.{bound_at}
+use Rattle.machine.proofs.Tests.{bound_at_lem}
 use Rattle.machine.proofs.Nodes.{Placed, placed}
 use Rattle.machine.proofs.Rules.{rule_1, rule_2, rule_3, rule_4, rule_5, rule_6, rule_7, rule_8}
 use Rattle.machine.proofs.Reverse.{turn_good, keeps_good, step_undone, step_turned_back}
@@ -184,7 +184,7 @@ module _ (T : Table) (F : Facts T) where
   top_kept i L (bullet ∷ t) k e = tt
   top_kept i L (held (entry v es) ∷ t) k e =
       let o : Origin T v es (state i up L []) = k v es [] on_top in
-      subst (λ j. bound_at T j v ≡ true) (ap (λ s. s.node) (left_here i L v es e o)) (bound_at T v o.is_variable)
+      subst (λ j. bound_at T j v ≡ true) (ap (λ s. s.node) (left_here i L v es e o)) (bound_at_lem T v o.is_variable)
 
 -- So it is after p steps on an accepted table, from any good state at position 0 that has kept where its entries come from. Document 003: "An invariant guarantees that the logged position on the
 -- tape always contains a position relative to the active abstraction."

@@ -14,7 +14,7 @@ use Rattle.machine.specs.Entries.{entry, Log, ε, ◌▸◌, how_many, topmost, 
 use Rattle.machine.specs.Machine.{Dir, down, up, State, state, bound_at, go_down, go_up, step_by, step, turned, turn, step_back}
 use Rattle.machine.specs.Good.{Good}
 use Rattle.machine.proofs.Logs.{topmost_rest, topmost_onto, rest_onto, how_many_onto, how_many_rest, how_many_topmost, topmost_in, rest_in, onto_in}
-use Rattle.machine.proofs.Tests.{bound_at, bound_is}
+use Rattle.machine.proofs.Tests.{bound_at_lem, bound_is}
 use Rattle.machine.proofs.Rules.{rule_1, rule_2, rule_3, rule_4, rule_5, rule_6, rule_7, rule_8}
 use Rattle.machine.proofs.Nodes.{is_node, Placed, placed}
 use Rattle.machine.proofs.Led.{Led}
@@ -42,7 +42,7 @@ module _ (T : Table) (F : Facts T) where
   undone_3 i L t false h k g = tt
   undone_3 i L t true h k g = record {
     back =
-        rule_4 T (T.left i) (rest (arity T i) L) t i (topmost (arity T i) L) (F.bound i k).binder (bound_at T i k)
+        rule_4 T (T.left i) (rest (arity T i) L) t i (topmost (arity T i) L) (F.bound i k).binder (bound_at_lem T i k)
         ∙ ap (λ M. some (state i up M t)) (topmost_rest (arity T i) L);
     good = record {
       node_there = is_node T F (T.left i) abstraction (F.bound i k).binder tt;

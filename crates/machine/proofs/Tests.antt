@@ -15,8 +15,8 @@ variable_is application h = absurd (false≢true h)
 variable_is nothing h = absurd (false≢true h)
 
 module _ (T : Table) where
-  pub bound_at : (v : ℕ) → kind_at T v ≡ variable → bound_at T (T.left v) v ≡ true
-  bound_at v k = simp (k, eq-eqb (T.left v) (T.left v) refl)
+  pub bound_at_lem : (v : ℕ) → kind_at T v ≡ variable → bound_at T (T.left v) v ≡ true
+  bound_at_lem v k = simp (k, eq-eqb (T.left v) (T.left v) refl)
 
   pub bound_is : (i v : ℕ) → bound_at T i v ≡ true → T.left v ≡ i
   bound_is i v h = eqb-true (T.left v) i ((and-eq-true_iff (is_variable (kind_at T v)) (eqb (T.left v) i)).0 h).1

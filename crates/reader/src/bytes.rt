@@ -3,7 +3,7 @@ ghost use Rattle.std.specs.Prelude.{◌≡◌, ◌≤◌, ◌*◌, ◌-◌, leng
 ghost use Rattle.text.specs.Bytes.{class_of};
 ghost use Rattle.reader.specs.Types.{class_meant, is_one_of};
 
-#[derive(Drop)]
+#[derive(Clone, Copy)]
 enum Class {
     Letter,
     Digit,
@@ -25,7 +25,7 @@ fn class_of(b: u8) -> Class
 }
 
 // Some of the five classes.
-#[derive(Drop)]
+#[derive(Clone, Copy)]
 pub(crate) struct Classes {
     letter: bool,
     digit: bool,

@@ -6,7 +6,7 @@ use crate::scan::variable_word;
 use crate::token::{After, First, after_mark, name_first, starts_atom};
 
 // The position after what was read, and the word after its code.
-#[derive(Drop)]
+#[derive(Clone, Copy)]
 pub(crate) enum Got {
     Read(usize, usize),
     Not,

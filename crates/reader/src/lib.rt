@@ -1,4 +1,5 @@
 // The reader: the text of a closed term, in either dialect, to its table.
+#![tactic(auto)]
 ghost use Rattle.std.specs.Prelude.{◌≡◌, ◌≤◌, length, take};
 ghost use Rattle.std.proofs.Math.Option.{Option};
 ghost use Rattle.term.specs.Term.{Term};
@@ -18,7 +19,7 @@ mod scan;
 mod token;
 
 // "The reader answers n." A refusal of 0 is none.
-#[derive(Drop)]
+#[derive(Clone, Copy)]
 pub struct Reading {
     pub n: u32,
     pub refusal: u32,
@@ -81,7 +82,7 @@ fn spelling_number(text: &[u8]) -> u32
 }
 
 // How many words of code were written, one for each node; or that the text is not a term.
-#[derive(Drop)]
+#[derive(Clone, Copy)]
 enum Coded {
     Words(usize),
     NoTerm,

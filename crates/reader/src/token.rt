@@ -8,14 +8,14 @@ use crate::bytes::{IN_NAME, byte, is_one_of};
 use crate::scan::{name_end, skip};
 
 // Where the text goes on after a sign, if that is the next token.
-#[derive(Drop)]
+#[derive(Clone, Copy)]
 pub(crate) enum After {
     Mark(usize),
     NoMark,
 }
 
 // Where a name stands and ends, if that is the next token.
-#[derive(Drop)]
+#[derive(Clone, Copy)]
 pub(crate) enum First {
     Name(usize, usize),
     NoName,

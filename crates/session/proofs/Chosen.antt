@@ -13,7 +13,7 @@ use Rattle.term.proofs.Facts.{accepted_facts}
 use Rattle.machine.specs.Entries.{Entry, entry, Log, ε, ◌▸◌, how_many, held, Tape}
 use Rattle.machine.specs.Machine.{Dir, down, up, State, bound_at, go_down, go_up, step_by, step}
 use Rattle.machine.proofs.Rules.{rule_1, rule_2, rule_3, rule_4, rule_5, rule_6, rule_7, rule_8}
-use Rattle.machine.proofs.Tests.{bound_at}
+use Rattle.machine.proofs.Tests.{bound_at_lem}
 use Rattle.session.specs.Types.{dir_meant}
 use Rattle.session.specs.Steps.{TokenAt}
 use Rattle.session.specs.Rules.{RuleIs}
@@ -95,7 +95,7 @@ module _ {w : List ℕ} {n : ℕ} {se : Declared.Session} {ls ts : List ℕ} {s 
           fits_4 here =
               let (es, t, on_top, variable_there) = entry_on_top h v some_word word not_bullet in
               let bound : bound_at (table_in w n) s.node v ≡ true =
-              subst (λ i. bound_at (table_in w n) i v ≡ true) (sym binder_is ∙ here ∙ h.enters.holds.node_is) (bound_at (table_in w n) v variable_there) in
+              subst (λ i. bound_at (table_in w n) i v ≡ true) (sym binder_is ∙ here ∙ h.enters.holds.node_is) (bound_at_lem (table_in w n) v variable_there) in
               (es, t, on_top, down_on on_top ∙ rule_4 (table_in w n) s.node s.log t v es (kind_of 2 k) bound)
 
           pub unfit_bound : (binder ≡ se.node → ⊥) → step (table_in w n) s ≡ none

@@ -40,7 +40,7 @@ fn entries_with(table: &[u16], n: u32, v: u32, have: usize) -> usize
 }
 
 // How many entries words make, or that one of them makes no entry.
-#[derive(Drop)]
+#[derive(Clone, Copy)]
 pub(crate) enum Count {
     Entries(usize),
     Bad,

@@ -5,7 +5,7 @@ ghost use Rattle.session.specs.Rules.{Chooses};
 use crate::{Dir, Session};
 
 // The rule of document 01 that fits, and the node that it leads to.
-#[derive(Drop)]
+#[derive(Clone, Copy)]
 pub(crate) enum Rule {
     One(u32),
     Two(u32),
@@ -18,7 +18,7 @@ pub(crate) enum Rule {
 }
 
 // The rule that fits, if one does.
-#[derive(Drop)]
+#[derive(Clone, Copy)]
 pub(crate) enum Fit {
     By(Rule),
     Unfit,

@@ -1,5 +1,6 @@
 // Sessions on a term: open, forward, back and go-to (document 01, "A session and its calls"), the top entry of log or tape (document 02, change 1), back and forward to a
 // chosen node in a chosen direction (document 02, change 5), and a look ahead and the way by what it handed out (document 02, change 10).
+#![tactic(auto)]
 ghost use Rattle.std.specs.Prelude.{◌≡◌, length, replicate};
 ghost use Rattle.calls.specs.Calls.{open_of, wind_of, forward_of, back_of, go_to_of};
 ghost use Rattle.calls.specs.Looks.{look_of, go_of};
@@ -26,14 +27,14 @@ use visits::seek_back;
 use winding::{Way, seek, wind};
 
 // Which way the token goes.
-#[derive(Drop)]
+#[derive(Clone, Copy)]
 pub enum Dir {
     Down,
     Up,
 }
 
 // Where the token stands: its node and direction, the steps from the start, the lengths in words of log and tape, and how many of the steps changed direction (document 02, change 9).
-#[derive(Drop)]
+#[derive(Clone, Copy)]
 pub struct Session {
     pub node: u32,
     pub dir: Dir,
@@ -44,7 +45,7 @@ pub struct Session {
 }
 
 // Why a call ended. A refusal's number comes instead of a stop. Found and None are said by the calls to a node alone.
-#[derive(Drop)]
+#[derive(Clone, Copy)]
 pub enum Stop {
     Spent,
     Answer(u32),
@@ -59,14 +60,14 @@ pub enum Stop {
 }
 
 // One of the two lists that the token carries.
-#[derive(Drop)]
+#[derive(Clone, Copy)]
 pub enum Which {
     Log,
     Tape,
 }
 
 // What open answers. A refusal of 0 is none.
-#[derive(Drop)]
+#[derive(Clone, Copy)]
 pub struct Opening {
     pub session: Session,
     pub refusal: u32,
@@ -74,7 +75,7 @@ pub struct Opening {
 
 // What the calls that wind answer. The peak is the greatest weight over the states stood in, in bits (document 02, change 2); carried is how many words the steps moved
 // between log and tape (document 02, change 6).
-#[derive(Drop)]
+#[derive(Clone, Copy)]
 pub struct Outcome {
     pub session: Session,
     pub steps: u32,

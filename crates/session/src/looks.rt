@@ -10,7 +10,7 @@ use crate::{Outcome, Session, Stop};
 
 // What a look answers: the steps, the stop, the peak and the words carried that forward would give, and the position and the count that it looked from. (It is declared here and not
 // beside the function `look`, for Rattle refuses two names in one module that differ in the case of a letter alone.)
-#[derive(Drop)]
+#[derive(Clone, Copy)]
 pub struct Look {
     pub steps: u32,
     pub stop: Stop,

@@ -8,7 +8,7 @@ ghost use Rattle.session.specs.Mover.{WordsMoved, MoverIs, MakerIs};
 use crate::extent::span;
 
 // How many words were moved, or that there was no room for them and nothing was.
-#[derive(Drop)]
+#[derive(Clone, Copy)]
 pub(crate) enum Moving {
     Moved(usize),
     NoRoom,

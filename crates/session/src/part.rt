@@ -11,7 +11,7 @@ use crate::extent::span;
 use crate::{Session, Which};
 
 // The index of a part's first word and how many words it has; or the number that refuses it.
-#[derive(Drop)]
+#[derive(Clone, Copy)]
 pub(crate) struct PartPlace {
     pub(crate) offset: usize,
     pub(crate) size: usize,

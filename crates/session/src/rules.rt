@@ -12,7 +12,7 @@ use crate::mover::{Moving, make_entry, move_entries};
 use crate::{Dir, Session};
 
 // Where a step leads: its node and direction, and the lengths in words of log and tape there; and how many words it moved between the two.
-#[derive(Drop)]
+#[derive(Clone, Copy)]
 pub(crate) struct Arrival {
     pub(crate) node: u32,
     pub(crate) dir: Dir,
@@ -22,7 +22,7 @@ pub(crate) struct Arrival {
 }
 
 // What became of a step: where it leads, or which slice has no room for it.
-#[derive(Drop)]
+#[derive(Clone, Copy)]
 pub(crate) enum Stepped {
     Made(Arrival),
     LogFull,
@@ -30,7 +30,7 @@ pub(crate) enum Stepped {
 }
 
 // The lengths in words after entries moved, of the list that they left and of the one that they came to, and how many words they have; or that there was no room for them.
-#[derive(Drop)]
+#[derive(Clone, Copy)]
 pub(crate) enum ListEnds {
     At(u32, u32, u32),
     NoRoom,

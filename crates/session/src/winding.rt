@@ -17,21 +17,21 @@ use crate::weight::{bullets_after, bullets_in, weight};
 use crate::{Dir, Outcome, Session, Stop};
 
 // Which way a call goes.
-#[derive(Drop)]
+#[derive(Clone, Copy)]
 pub(crate) enum Way {
     Forward,
     Back,
 }
 
 // What comes before a step: its stop, or the rule that the step is made by and the turns after it.
-#[derive(Drop)]
+#[derive(Clone, Copy)]
 pub(crate) enum Before {
     Ends(Stop),
     Makes(Rule, u32),
 }
 
 // One pass of the loop: on with the session after a step, the rule that it was made by and how many words it carried; or halted.
-#[derive(Drop)]
+#[derive(Clone, Copy)]
 pub(crate) enum Pass {
     On(Session, Rule, u32),
     Halted(Stop),

@@ -1,4 +1,6 @@
 // The table of a term: its words by node, and the test of number 7.
+#![tactic(auto)]
+
 ghost use Rattle.std.specs.Prelude.{◌≡◌, not, ◌≤◌, ◌<◌, length};
 ghost use Rattle.term.specs.Choice.{is_none};
 ghost use Rattle.term.specs.Table.{columns, word_in, table_in};

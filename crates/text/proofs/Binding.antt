@@ -16,13 +16,13 @@ use Rattle.text.specs.Grammar.{Tree, variable, binder, apply}
 use Rattle.text.specs.Binding.{same_name, index_of, nameless, Innermost, Form, Among, here, there, ClosedIn}
 use Rattle.text.proofs.Each.{Each, each_some, each_bind}
 
-pub same_name : (x y : Name) → (same_name x y ≡ true) ↔ (x ≡ y)
-same_name [] [] = (λ e. refl, λ e. refl)
-same_name [] (c ∷ y) = (λ e. cc, λ e. cc)
-same_name (b ∷ x) [] = (λ e. cc, λ e. cc)
-same_name (b ∷ x) (c ∷ y) = (
-  λ e. let h = each (eqb b c) (same_name x y) e in cc (eqb-true b c h.0, (same_name x y).0 h.1),
-  λ e. rw (eq-eqb b c (cc)) ((same_name x y).1 (cc)),
+pub same_name_lem : (x y : Name) → (same_name x y ≡ true) ↔ (x ≡ y)
+same_name_lem [] [] = (λ e. refl, λ e. refl)
+same_name_lem [] (c ∷ y) = (λ e. cc, λ e. cc)
+same_name_lem (b ∷ x) [] = (λ e. cc, λ e. cc)
+same_name_lem (b ∷ x) (c ∷ y) = (
+  λ e. let h = each (eqb b c) (same_name x y) e in cc (eqb-true b c h.0, (same_name_lem x y).0 h.1),
+  λ e. rw (eq-eqb b c (cc)) ((same_name_lem x y).1 (cc)),
 )
 
 each_innermost : (x : Name) (around : List Name) → Each (Innermost x around) (index_of x around)
@@ -32,14 +32,14 @@ each_innermost x (y ∷ around) = by_test (same_name x y) refl (each_innermost x
   where
     by_test : (t : Bool) → same_name x y ≡ t → Each (Innermost x around) (index_of x around)
         → Each (Innermost x (y ∷ around)) (index_of x (y ∷ around))
-    by_test true e r = rw e ((same_name x y).0 e)
+    by_test true e r = rw e ((same_name_lem x y).0 e)
     by_test false e r =
         rw e
         (each_bind (Innermost x around) (Innermost x (y ∷ around)) (index_of x around) (λ k. some (suc k)) r
-        λ k h. (λ same. false≢true (sym e ∙ (same_name x y).1 same), h))
+        λ k h. (λ same. false≢true (sym e ∙ (same_name_lem x y).1 same), h))
 
 not_same : (x y : Name) → (x ≡ y → ⊥) → same_name x y ≡ false
-not_same x y n = by_test (same_name x y) (same_name x y).0
+not_same x y n = by_test (same_name x y) (same_name_lem x y).0
   where
     by_test : (t : Bool) → (t ≡ true → x ≡ y) → t ≡ false
     by_test true e = absurd (n (e refl))
@@ -48,7 +48,7 @@ not_same x y n = by_test (same_name x y) (same_name x y).0
 innermost_found : (x : Name) (around : List Name) (k : ℕ) → Innermost x around k → index_of x around ≡ some k
 unfolding index_of
 innermost_found x [] k h = absurd h
-innermost_found x (y ∷ around) zero h = rw ((same_name x y).1 h)
+innermost_found x (y ∷ around) zero h = rw ((same_name_lem x y).1 h)
 innermost_found x (y ∷ around) (suc k) h = rw (not_same x y h.0, innermost_found x around k h.1)
 
 pub innermost : (x : Name) (around : List Name) (k : ℕ) → (index_of x around ≡ some k) ↔ Innermost x around k
@@ -87,7 +87,8 @@ innermost_among x (y ∷ around) (suc k) h = let r = innermost_among x around k 
 
 among_index : (x : Name) (around : List Name) → Among x around → (k : ℕ) × (index_of x around ≡ some k)
 unfolding index_of
-among_index x (_ ∷ around) here = (0, rw ((same_name x x).1 refl))
+among_index x [] m = elim m [ ]
+among_index x (_ ∷ around) here = (0, rw ((same_name_lem x x).1 refl))
 among_index x (y ∷ around) (there m) = by_test (same_name x y) refl (among_index x around m)
   where
     by_test : (t : Bool) → same_name x y ≡ t → (k : ℕ) × (index_of x around ≡ some k) → (k : ℕ) × (index_of x (y ∷ around) ≡ some k)

@@ -1,4 +1,6 @@
 // The writer: the table of a closed term to its text, in either dialect.
+#![tactic(auto)]
+
 ghost use Rattle.std.specs.Prelude.{◌≡◌};
 ghost use Rattle.term.specs.Accepted.{Accepted};
 ghost use Rattle.text.specs.Writing.{write_of, write_numbers_of};
@@ -14,7 +16,7 @@ mod part;
 mod put;
 
 // "The call answers its length." A refusal of 0 is none.
-#[derive(Drop)]
+#[derive(Clone, Copy)]
 pub struct Written {
     pub len: u32,
     pub refusal: u32,
@@ -35,7 +37,7 @@ pub fn write_numbers(table: &[u16], n: u32, text: &mut [u8]) -> Written
 }
 
 // The two ways in which a text spells a term.
-#[derive(Drop)]
+#[derive(Clone, Copy)]
 enum Dialect {
     Names,
     Numbers,

@@ -1,4 +1,5 @@
 // The readers, the writers, the conversions, the calls on a session and the run of Krivine's machine for a host in another language: host/yildreuz.h declares these functions, and the structs of `face`, in C.
+#![tactic(auto)]
 ghost use Rattle.std.specs.Prelude.{◌≡◌};
 ghost use Rattle.text.specs.Dialects.{to_numbers_of, to_names_of};
 ghost use Rattle.text.specs.NumberReading.{read_numbers_of};
@@ -94,7 +95,7 @@ pub extern "C" fn yildreuz_open(
 }
 
 // Which of the calls that wind, and its numbers.
-#[derive(Drop)]
+#[derive(Clone, Copy)]
 enum Move {
     Forward(u32),
     Back(u32),

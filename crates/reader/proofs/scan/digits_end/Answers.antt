@@ -1,0 +1,16 @@
+-- `digits_end` goes to the end of a run of digits. Assumes nothing.
+use mathlib.Core.Path.{ap, ◌∙◌}
+use Prim.Native.Nat.{◌+◌}
+use lib.ListN.{drop}
+use Rattle.text.specs.Bytes.{is_digit}
+use Rattle.reader.specs.Scanning.{run_of}
+use Rattle.reader.proofs.Classes.{classes_tested}
+use Rattle.reader.proofs.Digits.{digits_run}
+use Rattle.reader.proofs.scan.digits_end.Goals as goal
+
+pub returns : goal.returns
+returns c =
+    let a = c.args in
+    c.run_end.ensures
+    ∙ ap (λ test. a.at + run_of test (drop a.at a.text.now)) (classes_tested is_digit)
+    ∙ ap (λ n. a.at + n) (digits_run (drop a.at a.text.now))
