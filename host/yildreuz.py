@@ -1,6 +1,6 @@
 r"""Yildreuz for Python: the calls of yildreuz.h over a shared library, with Python's standard library alone. The library is made of the archive:
 
-    rt staticlib yildreuz
+    tools/archive
     cc -shared -o target/libyildreuz.so -Wl,--whole-archive target/staticlib/libyildreuz.a -Wl,--no-whole-archive
 
 and used so, with host/ in PYTHONPATH:

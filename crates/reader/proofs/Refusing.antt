@@ -32,7 +32,7 @@ foreign_stops (b ∷ s) = by_test (is_foreign (class_of b)) (foreign_stops s)
   where
     by_test : (t : Bool) → ltb (run_of not_foreign s) (length s) ≡ any_foreign s → ltb (cond (not t) (suc (run_of not_foreign s)) 0) (suc (length s)) ≡ (t || any_foreign s)
     by_test true e = lt-ltb 0 (suc (length s)) (omega arith)
-    by_test false e = rw compare.suc_suc e
+    by_test false e = rw compare.suc-suc e
 
 -- A byte of no name brings no bad name.
 not_in_name : (c : Class) (b : ℕ) (ps : List Piece) → in_name c ≡ false → any_bad_name (tokens_of (put_byte c b ps)) ≡ any_bad_name (tokens_of ps)

@@ -1,5 +1,6 @@
 // The reader: the text of a closed term, in either dialect, to its table.
 #![tactic(auto)]
+
 ghost use Rattle.std.specs.Prelude.{◌≡◌, ◌≤◌, length, take};
 ghost use Rattle.std.proofs.Math.Option.{Option};
 ghost use Rattle.term.specs.Term.{Term};

@@ -30,53 +30,46 @@ use session::{Dir, Outcome, Session};
 use texts::{reading_told, written_told};
 
 // The reader's answer, and the table slice as it leaves it; the same of the number dialect.
-#[unsafe(no_mangle)]
-pub extern "C" fn yildreuz_read(text: &[u8], table: &mut [u16]) -> HostReading
+pub fn yildreuz_read(text: &[u8], table: &mut [u16]) -> HostReading
     ensures { (result, table.new) ≡ read_told (read_of text.now table.old) }
 {
     reading_told(reader::read(text, table))
 }
 
-#[unsafe(no_mangle)]
-pub extern "C" fn yildreuz_read_numbers(text: &[u8], table: &mut [u16]) -> HostReading
+pub fn yildreuz_read_numbers(text: &[u8], table: &mut [u16]) -> HostReading
     ensures { (result, table.new) ≡ read_told (read_numbers_of text.now table.old) }
 {
     reading_told(reader::read_numbers(text, table))
 }
 
 // The writer's answer, and the lent bytes as it leaves them; the same of the number dialect.
-#[unsafe(no_mangle)]
-pub extern "C" fn yildreuz_write(table: &[u16], n: u32, text: &mut [u8]) -> HostWritten
+pub fn yildreuz_write(table: &[u16], n: u32, text: &mut [u8]) -> HostWritten
     ensures { (result, text.new) ≡ write_told (write_of table.now n text.old) }
 {
     written_told(writer::write(table, n, text))
 }
 
-#[unsafe(no_mangle)]
-pub extern "C" fn yildreuz_write_numbers(table: &[u16], n: u32, text: &mut [u8]) -> HostWritten
+pub fn yildreuz_write_numbers(table: &[u16], n: u32, text: &mut [u8]) -> HostWritten
     ensures { (result, text.new) ≡ write_told (write_numbers_of table.now n text.old) }
 {
     written_told(writer::write_numbers(table, n, text))
 }
 
 // A conversion's answer, and the lent bytes as it leaves them.
-#[unsafe(no_mangle)]
-pub extern "C" fn yildreuz_to_numbers(text: &[u8], out: &mut [u8]) -> HostWritten
+pub fn yildreuz_to_numbers(text: &[u8], out: &mut [u8]) -> HostWritten
     ensures { (result, out.new) ≡ write_told (to_numbers_of text.now out.old) }
 {
     written_told(dialect::to_numbers(text, out))
 }
 
-#[unsafe(no_mangle)]
-pub extern "C" fn yildreuz_to_names(text: &[u8], out: &mut [u8]) -> HostWritten
+pub fn yildreuz_to_names(text: &[u8], out: &mut [u8]) -> HostWritten
     ensures { (result, out.new) ≡ write_told (to_names_of text.now out.old) }
 {
     written_told(dialect::to_names(text, out))
 }
 
 // Open's answer, its session in numbers, and both slices as it leaves them.
-#[unsafe(no_mangle)]
-pub extern "C" fn yildreuz_open(
+pub fn yildreuz_open(
     table: &[u16],
     n: u32,
     log: &mut [u32],
@@ -147,8 +140,7 @@ fn call(
 }
 
 // To a position.
-#[unsafe(no_mangle)]
-pub extern "C" fn yildreuz_go_to(
+pub fn yildreuz_go_to(
     table: &[u16],
     n: u32,
     session: HostSession,
@@ -163,8 +155,7 @@ pub extern "C" fn yildreuz_go_to(
 }
 
 // Forward by a count.
-#[unsafe(no_mangle)]
-pub extern "C" fn yildreuz_forward(
+pub fn yildreuz_forward(
     table: &[u16],
     n: u32,
     session: HostSession,
@@ -179,8 +170,7 @@ pub extern "C" fn yildreuz_forward(
 }
 
 // Forward by a count, or to the first later position that it reaches at which the token stands on a node in a direction.
-#[unsafe(no_mangle)]
-pub extern "C" fn yildreuz_forward_to(
+pub fn yildreuz_forward_to(
     table: &[u16],
     n: u32,
     session: HostSession,
@@ -199,8 +189,7 @@ pub extern "C" fn yildreuz_forward_to(
 }
 
 // Back to the last earlier position at which the token stood on a node in a direction.
-#[unsafe(no_mangle)]
-pub extern "C" fn yildreuz_back_to(
+pub fn yildreuz_back_to(
     table: &[u16],
     n: u32,
     session: HostSession,
@@ -218,8 +207,7 @@ pub extern "C" fn yildreuz_back_to(
 }
 
 // Back by a count.
-#[unsafe(no_mangle)]
-pub extern "C" fn yildreuz_back(
+pub fn yildreuz_back(
     table: &[u16],
     n: u32,
     session: HostSession,
@@ -234,8 +222,7 @@ pub extern "C" fn yildreuz_back(
 }
 
 // Where the top entry lies in the lent slice. The number goes out through `refusal`.
-#[unsafe(no_mangle)]
-pub extern "C" fn yildreuz_top<'a>(
+pub fn yildreuz_top<'a>(
     table: &[u16],
     n: u32,
     session: HostSession,
@@ -257,8 +244,7 @@ pub extern "C" fn yildreuz_top<'a>(
 }
 
 // What forward by a count would give; every word as given.
-#[unsafe(no_mangle)]
-pub extern "C" fn yildreuz_look(
+pub fn yildreuz_look(
     table: &[u16],
     n: u32,
     session: HostSession,
@@ -275,8 +261,7 @@ pub extern "C" fn yildreuz_look(
 }
 
 // By the position and the count that a look handed out.
-#[unsafe(no_mangle)]
-pub extern "C" fn yildreuz_go(
+pub fn yildreuz_go(
     table: &[u16],
     n: u32,
     session: HostSession,
@@ -292,8 +277,7 @@ pub extern "C" fn yildreuz_go(
 }
 
 // The run's answer, and the records as it leaves them.
-#[unsafe(no_mangle)]
-pub extern "C" fn yildreuz_run(table: &[u16], n: u32, records: &mut [u32], count: u32) -> HostRun
+pub fn yildreuz_run(table: &[u16], n: u32, records: &mut [u32], count: u32) -> HostRun
     ensures { (result, records.new) ≡ run_told (run_of table.now n records.old count) }
 {
     run_told(krivine::run(table, n, records, count))

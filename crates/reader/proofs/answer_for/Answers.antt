@@ -22,9 +22,8 @@ returns-then-table-n c =
 
 pub lay_out-requires : goal.lay_out-requires
 lay_out-requires c =
-    let s = c in
-    let a = s.args in
-    whole a.code.now a.n a.unbound s.requires.0 s.requires.1 a.table.now (sym c.any_zero.ensures ∙ c.if-any_zero.false) (omega (arith, c.if-table-n.false))
+    let a = c.args in
+    whole a.code.now a.n a.unbound c.requires.0 c.requires.1 a.table.now (sym c.any_zero.ensures ∙ c.if-any_zero.false) (omega (arith, c.if-table-n.false))
 
 pub returns : goal.returns
 returns c =

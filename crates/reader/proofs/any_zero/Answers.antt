@@ -1,6 +1,5 @@
 -- `any_zero` looks for a word 0. Its loop keeps: whether there is one among the first n is whether there is one from word i on.
 use mathlib.Core.Path.{refl, sym, ◌∙◌}
-use Prim.Native.Nat.{◌-◌}
 use native.Mathlib.Omega.{arith}
 use Rattle.reader.proofs.Nameless.{zero_here, zero_later, zero_nowhere}
 use Rattle.reader.proofs.any_zero.Goals as goal

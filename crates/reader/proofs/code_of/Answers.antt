@@ -5,15 +5,13 @@ use Rattle.reader.proofs.code_of.Goals as goal
 
 pub returns-then-skip-text : goal.returns-then-skip-text
 returns-then-skip-text c =
-    let s = c in
     let g = rw c.in-Read.is at c.term-got.ensures in
-    text_left s.args.text.now _ _ _ _ _ _ _ g c.skip.ensures (omega arith)
+    text_left c.args.text.now _ _ _ _ _ _ _ g c.skip.ensures (omega arith)
 
 pub returns-else-skip-text : goal.returns-else-skip-text
 returns-else-skip-text c =
-    let s = c in
     let g = rw c.in-Read.is at c.term-got.ensures in
-    text_coded s.args.text.now _ s.args.code.now _ _ _ _ _ g c.skip.ensures (omega arith) s.requires.0 s.requires.1
+    text_coded c.args.text.now _ c.args.code.now _ _ _ _ _ g c.skip.ensures (omega arith) c.requires.0 c.requires.1
 
 pub returns-in-Not : goal.returns-in-Not
 returns-in-Not c = text_not c.args.text.now c.in-Not.ensures

@@ -9,9 +9,7 @@ returns-then-p-text c =
     bytes_left a.text.now a.code.now _ _ _ c.in-Read.ensures (omega (arith, c.if-p-text.true))
 
 pub returns-else-p-text : goal.returns-else-p-text
-returns-else-p-text c =
-    let s = c in
-    numbers_coded s.args.text.now s.args.code.now _ _ _ c.in-Read.ensures (omega (arith, c.if-p-text.false)) s.requires.0 s.requires.1
+returns-else-p-text c = numbers_coded c.args.text.now c.args.code.now _ _ _ c.in-Read.ensures (omega (arith, c.if-p-text.false)) c.requires.0 c.requires.1
 
 pub returns-in-Not : goal.returns-in-Not
 returns-in-Not c =

@@ -18,8 +18,7 @@ answer_for-requires c =
 
 pub returns-in-Words : goal.returns-in-Words
 returns-in-Words c =
-    let start = c in
-    let a = start.args in
+    let a = c.args in
     let k = rw c.in-Words.is at c.numbers_code-coded.ensures in
     c.answer_for.ensures (closed_only k.value) k.in_code
     ∙ sym (a_phrase a.text.now a.table.now (omega (arith, c.if-text-gt3000.false)) k.value k.is)

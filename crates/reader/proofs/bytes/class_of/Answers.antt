@@ -1,6 +1,6 @@
 -- `class_of` tells the class of a byte: the code's tests in their order against those of the definition. Assumes nothing.
 use mathlib.Core.Path.{◌≡◌, refl, sym, ap}
-use mathlib.Core.Logic.{◌⊎◌, inl, inr, ⊎_elim}
+use mathlib.Core.Logic.{⊎_elim}
 use mathlib.Core.Bool.{Bool, true, false, ◌&&◌}
 use Prim.Native.Nat.{ℕ, ◌≤◌, ◌<◌}
 use native.Mathlib.Omega.{arith}
@@ -38,17 +38,17 @@ a_bracket b l h = by_test (eqb b 40) refl
         sym (ap class_of closes)
 
 -- none of the single bytes, and in neither range
-no_class : (b : ℕ) → ((b ≡ 10) ⊎ (b ≡ 32) → ⊥) → ((b ≡ 46) ⊎ (b ≡ 92) → ⊥) → (b ≡ 40 → ⊥) → (b ≡ 41 → ⊥)
+no_class : (b : ℕ) → (b ≡ 10 → ⊥) → (b ≡ 32 → ⊥) → (b ≡ 46 → ⊥) → (b ≡ 92 → ⊥) → (b ≡ 40 → ⊥) → (b ≡ 41 → ⊥)
     → (leb 97 b && leb b 122) ≡ false → (leb 48 b && leb b 57) ≡ false → foreign ≡ class_of b
 unfolding class_of
-no_class b blanks signs opening closing l d =
+no_class b feed space dot lambda opening closing l d =
     rw (
       l,
       d,
-      ne_eqb b 32 (λ e. blanks (inr e)),
-      ne_eqb b 10 (λ e. blanks (inl e)),
-      ne_eqb b 92 (λ e. signs (inr e)),
-      ne_eqb b 46 (λ e. signs (inl e)),
+      ne_eqb b 32 space,
+      ne_eqb b 10 feed,
+      ne_eqb b 92 lambda,
+      ne_eqb b 46 dot,
       ne_eqb b 40 opening,
       ne_eqb b 41 closing,
     )
@@ -66,26 +66,22 @@ returns-in-97-to-122 c = a_letter c.args.b (omega arith) (omega arith)
 pub returns-in_default : goal.returns-in_default
 returns-in_default c =
     let b = c.args.b in
-    let rest = c.in_default-1.rest in
-    no_class b rest.0.1 rest.1 (omega arith) (omega arith) (below_range 97 122 b (omega arith)) (below_range 48 57 b (omega arith))
+    no_class b (grind arith) (grind arith) (grind arith) (grind arith) (omega arith) (omega arith) (below_range 97 122 b (omega arith)) (below_range 48 57 b (omega arith))
 
 pub returns-in_default-2 : goal.returns-in_default-2
 returns-in_default-2 c =
     let b = c.args.b in
-    let rest = c.in_default-1.rest in
-    no_class b rest.0.1 rest.1 (omega arith) (omega arith) (below_range 97 122 b (omega arith)) (below_range 48 57 b (omega arith))
+    no_class b (grind arith) (grind arith) (grind arith) (grind arith) (omega arith) (omega arith) (below_range 97 122 b (omega arith)) (below_range 48 57 b (omega arith))
 
 pub returns-in_default-3 : goal.returns-in_default-3
 returns-in_default-3 c =
     let b = c.args.b in
-    let rest = c.in_default-1.rest in
-    no_class b rest.0.1 rest.1 (omega arith) (omega arith) (below_range 97 122 b (omega arith)) (above_range 48 57 b (omega arith) (omega arith))
+    no_class b (grind arith) (grind arith) (grind arith) (grind arith) (omega arith) (omega arith) (below_range 97 122 b (omega arith)) (above_range 48 57 b (omega arith) (omega arith))
 
 pub returns-in_default-4 : goal.returns-in_default-4
 returns-in_default-4 c =
     let b = c.args.b in
-    let rest = c.in_default-1.rest in
-    no_class b rest.0.1 rest.1 (omega arith) (omega arith) (above_range 97 122 b (omega arith) (omega arith)) (above_range 48 57 b (omega arith) (omega arith))
+    no_class b (grind arith) (grind arith) (grind arith) (grind arith) (omega arith) (omega arith) (above_range 97 122 b (omega arith) (omega arith)) (above_range 48 57 b (omega arith) (omega arith))
 
 pub returns-in-92 : goal.returns-in-92
 unfolding class_of

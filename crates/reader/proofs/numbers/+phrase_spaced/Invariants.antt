@@ -4,7 +4,7 @@ use lib.ListN.{length}
 use Rattle.reader.proofs.numbers.+phrase_spaced.Given as goal
 
 abbrev pub decreases-phrase : goal.decreases-phrase
-decreases-phrase l = 2 * (length a.0.now - a.1.0)
+decreases-phrase l = 2 * (length l.text.now - l.at)
 
 abbrev pub decreases-spaced : goal.decreases-spaced
 decreases-spaced l = 2 * (length l.text.now - l.at) + 1

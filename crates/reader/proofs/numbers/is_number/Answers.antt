@@ -4,11 +4,7 @@ use Rattle.reader.proofs.Digits.{few_are, many_are}
 use Rattle.reader.proofs.numbers.is_number.Goals as goal
 
 pub returns-then-end-at-lt2 : goal.returns-then-end-at-lt2
-returns-then-end-at-lt2 c =
-    let s = c in
-    few_are s.args.text.now s.args.at s.args.end s.requires.0 s.requires.1 (omega arith)
+returns-then-end-at-lt2 c = few_are c.args.text.now c.args.at c.args.end c.requires.0 c.requires.1 (omega arith)
 
 pub returns-else-end-at-lt2 : goal.returns-else-end-at-lt2
-returns-else-end-at-lt2 c =
-    let s = c in
-    many_are s.args.text.now s.args.at s.args.end s.requires.0 s.requires.1 (omega arith)
+returns-else-end-at-lt2 c = many_are c.args.text.now c.args.at c.args.end c.requires.0 c.requires.1 (omega arith)

@@ -1,6 +1,5 @@
 -- `any_bad_name` goes from name to name: some name from `at` on is bad exactly where some name of the text is. Assumes nothing.
 use mathlib.Core.Path.{refl, sym, ◌∙◌}
-use Prim.Native.Nat.{◌-◌}
 use native.Mathlib.Omega.{arith}
 use lib.ListN.{drop, length-drop}
 use Rattle.reader.proofs.Scanning.{name_fits}

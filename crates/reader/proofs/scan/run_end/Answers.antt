@@ -1,6 +1,5 @@
 -- `run_end` goes to the end of a run: the run from `i` ends where the run from `at` does. Assumes nothing.
 use mathlib.Core.Path.{refl, sym, ◌∙◌}
-use Prim.Native.Nat.{◌-◌}
 use native.Mathlib.Omega.{arith}
 use Rattle.reader.specs.Types.{is_one_of}
 use Rattle.reader.proofs.Runs.{run_more, run_stops, run_past}

@@ -1,6 +1,5 @@
 -- `same_name` compares two names of one length byte by byte: from `i` on they are the same exactly where the whole names are. Assumes nothing.
 use mathlib.Core.Path.{refl, sym, ◌∙◌}
-use Prim.Native.Nat.{◌-◌}
 use native.Mathlib.Omega.{arith}
 use lib.ListN.{drop}
 use Rattle.reader.specs.Scanning.{name_at}

@@ -4,12 +4,10 @@ use Rattle.reader.proofs.token.name_first.Goals as goal
 
 pub returns-then-i-end : goal.returns-then-i-end
 returns-then-i-end c =
-    let s = c in
-    let a = s.args in
-    first_found a.text.now a.at s.skip-i.result s.skip-i.ensures c.name_end-end.result s.requires c.name_end-end.ensures c.if-i-end.true
+    let a = c.args in
+    first_found a.text.now a.at c.skip-i.result c.skip-i.ensures c.name_end-end.result c.requires c.name_end-end.ensures c.if-i-end.true
 
 pub returns-else-i-end : goal.returns-else-i-end
 returns-else-i-end c =
-    let s = c in
-    let a = s.args in
-    first_missing a.text.now a.at s.skip-i.result s.skip-i.ensures c.name_end-end.result c.name_end-end.ensures c.if-i-end.false
+    let a = c.args in
+    first_missing a.text.now a.at c.skip-i.result c.skip-i.ensures c.name_end-end.result c.name_end-end.ensures c.if-i-end.false

@@ -7,12 +7,10 @@ use Rattle.reader.proofs.token.starts_atom.Goals as goal
 
 pub returns-then-is_one_of : goal.returns-then-is_one_of
 returns-then-is_one_of c =
-    let s = c in
-    let a = s.args in
-    starts_named a.text.now a.at s.skip.result s.skip.ensures c.byte-b.result c.byte-b.ensures.0 (sym (class_tested in_name (class_of c.byte-b.result)) ∙ sym c.is_one_of.ensures ∙ c.if-is_one_of.true)
+    let a = c.args in
+    starts_named a.text.now a.at c.skip.result c.skip.ensures c.byte-b.result c.byte-b.ensures.0 (sym (class_tested in_name (class_of c.byte-b.result)) ∙ sym c.is_one_of.ensures ∙ c.if-is_one_of.true)
 
 pub returns-else-is_one_of : goal.returns-else-is_one_of
 returns-else-is_one_of c =
-    let s = c in
-    let a = s.args in
-    starts_sign a.text.now a.at s.skip.result s.skip.ensures c.byte-b.result c.byte-b.ensures.0 (sym (class_tested in_name (class_of c.byte-b.result)) ∙ sym c.is_one_of.ensures ∙ c.if-is_one_of.false)
+    let a = c.args in
+    starts_sign a.text.now a.at c.skip.result c.skip.ensures c.byte-b.result c.byte-b.ensures.0 (sym (class_tested in_name (class_of c.byte-b.result)) ∙ sym c.is_one_of.ensures ∙ c.if-is_one_of.false)
