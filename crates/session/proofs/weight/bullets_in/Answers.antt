@@ -1,5 +1,5 @@
 -- `bullets_in`: those found and those to come are all there are.
-use Prim.Native.Nat.{◌-◌, ◌<◌}
+use Prim.Native.Nat.{◌<◌}
 use native.Mathlib.Omega.{arith}
 use lib.ListN.{length}
 use Rattle.session.proofs.Weighing.{bullet_next, other_next, none_next}
@@ -31,8 +31,8 @@ loop-i-preserved c =
     let i = l.loop-i.i in
     let h : i < length s = omega arith in
     elim c.if-words-i-eq0.branch [
-      then-words-i-eq0 w ↦ (omega arith, omega (arith, w.bullets-is), omega (arith, w.bullets-is, bullet_next s i h w.if-words-i-eq0.true))
-    | else-words-i-eq0 w ↦ (omega arith, omega (arith, w.bullets-is), omega (arith, w.bullets-is, other_next s i h w.if-words-i-eq0.false))
+      | then-words-i-eq0 w ↦ (omega arith, omega (arith, w.bullets-is), omega (arith, w.bullets-is, bullet_next s i h w.if-words-i-eq0.true))
+      | else-words-i-eq0 w ↦ (omega arith, omega (arith, w.bullets-is), omega (arith, w.bullets-is, other_next s i h w.if-words-i-eq0.false))
     ]
 
 pub returns : goal.returns
