@@ -1,5 +1,6 @@
 // A text of one dialect into the other: document 02, change 7.
 #![tactic(auto)]
+
 ghost use Rattle.std.specs.Prelude.{◌≡◌};
 ghost use Rattle.text.specs.Dialects.{to_numbers_of, to_names_of};
 ghost use Rattle.writer.specs.Types.{write_meant, refused_writing};

@@ -50,8 +50,8 @@ module _ {w : List ℕ} {n : ℕ} {se : Declared.Session} {ls ts : List ℕ} {s 
   step_on d e p q = λ i. step_by (table_in w n) s.node ((sym h.enters.holds.dir_is ∙ e) i) (p i) (q i)
 
   module _ (d : se.dir ≡ Down) {kind left : ℕ} (kind_is : kind ≡ (table_in w n).kind se.node) (left_is : left ≡ (table_in w n).left se.node) where
-    kind_of : (k : ℕ) → kind ≡ k → kind_at (table_in w n) s.node ≡ kind_of k
-    kind_of k e = ap kind_of (ap (table_in w n).kind (sym h.enters.holds.node_is) ∙ sym kind_is ∙ e)
+    kind_as : (k : ℕ) → kind ≡ k → kind_at (table_in w n) s.node ≡ kind_of k
+    kind_as k e = ap kind_of (ap (table_in w n).kind (sym h.enters.holds.node_is) ∙ sym kind_is ∙ e)
 
     goes_left : (table_in w n).left s.node ≡ left
     goes_left = ap (table_in w n).left (sym h.enters.holds.node_is) ∙ sym left_is
@@ -65,29 +65,29 @@ module _ {w : List ℕ} {n : ℕ} {se : Declared.Session} {ls ts : List ℕ} {s 
 
     pub fits_1 : kind ≡ 3 → RuleIs (table_in w n) s (One left)
     unfolding kind_of
-    fits_1 k = subst (λ j. RuleIs (table_in w n) s (One j)) goes_left (down_on refl ∙ rule_1 (table_in w n) s.node s.log s.tape (kind_of 3 k))
+    fits_1 k = subst (λ j. RuleIs (table_in w n) s (One j)) goes_left (down_on refl ∙ rule_1 (table_in w n) s.node s.log s.tape (kind_as 3 k))
 
     pub fits_3 : kind ≡ 1 → RuleIs (table_in w n) s (Three left)
     unfolding kind_of
     fits_3 k =
         let enough : arity (table_in w n) s.node ≤ how_many s.log = omega (arith, h.enters.holds.good.level_many) in
-        subst (λ j. RuleIs (table_in w n) s (Three j)) goes_left (enough, down_on refl ∙ rule_3 (table_in w n) s.node s.log s.tape (kind_of 1 k) enough)
+        subst (λ j. RuleIs (table_in w n) s (Three j)) goes_left (enough, down_on refl ∙ rule_3 (table_in w n) s.node s.log s.tape (kind_as 1 k) enough)
 
     pub unfit_kind : (kind ≡ 3 → ⊥) → (kind ≡ 1 → ⊥) → (kind ≡ 2 → ⊥) → step (table_in w n) s ≡ none
     unfolding go_down
-    unfit_kind a b c = down_none nothing (kind_of kind refl ∙ other_kind kind a b c) s.tape refl refl
+    unfit_kind a b c = down_none nothing (kind_as kind refl ∙ other_kind kind a b c) s.tape refl refl
 
     module _ (k : kind ≡ 2) where
       pub unfit_empty : se.tape_len ≡ 0 → step (table_in w n) s ≡ none
       unfolding go_down kind_of
-      unfit_empty z = down_none abstraction (kind_of 2 k) [] (nothing_on_top h z) refl
+      unfit_empty z = down_none abstraction (kind_as 2 k) [] (nothing_on_top h z) refl
 
       module _ (some_word : se.tape_len ≡ 0 → ⊥) {v : ℕ} (word : v ≡ get_or ts (se.tape_len - 1) 0) where
         pub fits_2 : v ≡ 0 → RuleIs (table_in w n) s (Two left)
         unfolding kind_of
         fits_2 z =
             let (t, on_top) = bullet_on_top h v some_word word z in
-            subst (λ j. RuleIs (table_in w n) s (Two j)) goes_left (t, on_top, down_on on_top ∙ rule_2 (table_in w n) s.node s.log t (kind_of 2 k))
+            subst (λ j. RuleIs (table_in w n) s (Two j)) goes_left (t, on_top, down_on on_top ∙ rule_2 (table_in w n) s.node s.log t (kind_as 2 k))
 
         module _ (not_bullet : v ≡ 0 → ⊥) {binder : ℕ} (binder_is : binder ≡ (table_in w n).left v) where
           pub fits_4 : binder ≡ se.node → RuleIs (table_in w n) s (Four v)
@@ -96,7 +96,7 @@ module _ {w : List ℕ} {n : ℕ} {se : Declared.Session} {ls ts : List ℕ} {s 
               let (es, t, on_top, variable_there) = entry_on_top h v some_word word not_bullet in
               let bound : bound_at (table_in w n) s.node v ≡ true =
               subst (λ i. bound_at (table_in w n) i v ≡ true) (sym binder_is ∙ here ∙ h.enters.holds.node_is) (bound_at_lem (table_in w n) v variable_there) in
-              (es, t, on_top, down_on on_top ∙ rule_4 (table_in w n) s.node s.log t v es (kind_of 2 k) bound)
+              (es, t, on_top, down_on on_top ∙ rule_4 (table_in w n) s.node s.log t v es (kind_as 2 k) bound)
 
           pub unfit_bound : (binder ≡ se.node → ⊥) → step (table_in w n) s ≡ none
           unfolding go_down kind_of
@@ -104,7 +104,7 @@ module _ {w : List ℕ} {n : ℕ} {se : Declared.Session} {ls ts : List ℕ} {s 
               let (es, t, on_top, variable_there) = entry_on_top h v some_word word not_bullet in
               let unbound : bound_at (table_in w n) s.node v ≡ false =
               ap₂ (λ q b. is_variable q && b) variable_there (ne_eqb ((table_in w n).left v) s.node (λ e. elsewhere (binder_is ∙ e ∙ sym h.enters.holds.node_is))) in
-              down_none abstraction (kind_of 2 k) (held (entry v es) ∷ t) on_top (rw unbound)
+              down_none abstraction (kind_as 2 k) (held (entry v es) ∷ t) on_top (rw unbound)
 
   module _ (d : se.dir ≡ Up) {p kind left right : ℕ} (p_is : p ≡ (table_in w n).parent se.node) (kind_is : kind ≡ (table_in w n).kind p)
       (left_is : left ≡ (table_in w n).left p) (right_is : right ≡ (table_in w n).right p) where

@@ -1,6 +1,7 @@
 // Sessions on a term: open, forward, back and go-to (document 01, "A session and its calls"), the top entry of log or tape (document 02, change 1), back and forward to a
 // chosen node in a chosen direction (document 02, change 5), and a look ahead and the way by what it handed out (document 02, change 10).
 #![tactic(auto)]
+
 ghost use Rattle.std.specs.Prelude.{◌≡◌, length, replicate};
 ghost use Rattle.calls.specs.Calls.{open_of, wind_of, forward_of, back_of, go_to_of};
 ghost use Rattle.calls.specs.Looks.{look_of, go_of};

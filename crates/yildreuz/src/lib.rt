@@ -1,5 +1,6 @@
 // The readers, the writers, the conversions, the calls on a session and the run of Krivine's machine for a host in another language: host/yildreuz.h declares these functions, and the structs of `face`, in C.
 #![tactic(auto)]
+
 ghost use Rattle.std.specs.Prelude.{◌≡◌};
 ghost use Rattle.text.specs.Dialects.{to_numbers_of, to_names_of};
 ghost use Rattle.text.specs.NumberReading.{read_numbers_of};
@@ -69,12 +70,7 @@ pub fn yildreuz_to_names(text: &[u8], out: &mut [u8]) -> HostWritten
 }
 
 // Open's answer, its session in numbers, and both slices as it leaves them.
-pub fn yildreuz_open(
-    table: &[u16],
-    n: u32,
-    log: &mut [u32],
-    tape: &mut [u32],
-) -> HostOpening
+pub fn yildreuz_open(table: &[u16], n: u32, log: &mut [u32], tape: &mut [u32]) -> HostOpening
     ensures { (result, log.new, tape.new)
         ≡ open_told (open_of table.now n log.old tape.old) }
 {

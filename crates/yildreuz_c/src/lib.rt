@@ -1,5 +1,6 @@
 // The functions of `yildreuz` for C, each with its clauses: the archive that host/yildreuz.h declares.
 #![tactic(auto)]
+
 ghost use Rattle.std.specs.Prelude.{◌≡◌};
 ghost use Rattle.text.specs.Dialects.{to_numbers_of, to_names_of};
 ghost use Rattle.text.specs.NumberReading.{read_numbers_of};
@@ -13,7 +14,9 @@ ghost use Rattle.kam.specs.Runs.{run_of};
 ghost use Rattle.face.specs.Numbers.{spot_in};
 ghost use Rattle.face.specs.Told.{read_told, write_told, open_told, called, look_called, top_called, run_told};
 
-use face::{HostLook, HostOpening, HostOutcome, HostPart, HostReading, HostRun, HostSession, HostWritten};
+use face::{
+    HostLook, HostOpening, HostOutcome, HostPart, HostReading, HostRun, HostSession, HostWritten,
+};
 
 // The reader's answer, and the table slice as it leaves it; the same of the number dialect.
 #[unsafe(no_mangle)]

@@ -1,7 +1,7 @@
 -- `clear`: the words passed are 0, and the others are as they were.
 use mathlib.Core.Path.{◌≡◌, refl, ap, ap₂, ◌∙◌}
 use mathlib.Core.List.{◌++◌, append-nil}
-use Prim.Native.Nat.{◌≤◌, ◌-◌}
+use Prim.Native.Nat.{◌≤◌}
 use native.Mathlib.Omega.{arith}
 use lib.ListN.{length, replicate, set, length-set, drop_of_length-le}
 use borrow.Author.Fill.{fill_none, fill_more}

@@ -11,7 +11,7 @@ use Rattle.session.specs.Types.{lent, which_meant, word_ptr}
 use Rattle.session.specs.Part.{placed}
 use Rattle.session.proofs.Places.{place_fits, place_cut}
 use Rattle.session.proofs.top.Goals as goal
-use Rattle.session.proofs.top.Goals.{After-top_place-place, In-Log, In-Tape}
+use Rattle.session.proofs.top.Goals.{After-top_place-place}
 
 -- what the call was lent
 abbrev given : After-top_place-place → Given
@@ -28,35 +28,35 @@ cut_in u x e = place_cut (which_meant x) (given u) (placed_in u x e) ∙ ap (λ 
 
 there_in : (u : After-top_place-place) (x : Which) → u.args.which ≡ x
     → (let a = u.args in
-    word_ptr (as_told (which_meant x) a.log.ptr a.tape.ptr) u.top_place-place.result.offset
-    ≡ word_ptr (as_told (which_meant a.which) a.log.ptr a.tape.ptr) (top_of (which_meant a.which) (given u)).offset)
+    word_ptr (as_told (which_meant x) a.log.ref_ptr a.tape.ref_ptr) u.top_place-place.result.offset
+    ≡ word_ptr (as_told (which_meant a.which) a.log.ref_ptr a.tape.ref_ptr) (top_of (which_meant a.which) (given u)).offset)
 there_in u x e =
     let a = u.args in
-    λ i. word_ptr (as_told (which_meant (sym e i)) a.log.ptr a.tape.ptr) (u.top_place-place.ensures i).offset
+    λ i. word_ptr (as_told (which_meant (sym e i)) a.log.ref_ptr a.tape.ref_ptr) (u.top_place-place.ensures i).offset
 
 pub overflow_add-end : goal.overflow_add-end
 overflow_add-end c = let u = (goal.at.overflow_add-end c).After-top_place-place in omega (arith, (place_fits (which_meant u.args.which) (given u) u.top_place-place.ensures).1)
 
-log_fits : (c : In-Log) → (let p = c.top_place-place.result in (p.offset + p.size ≤ length (given c.before.before.before).log) × (p.offset + p.size ≤ 16384))
-log_fits c = let u = c.before.before.before in place_fits log (given u) (placed_in u Log c.in-Log.is)
+log_fits : (u : After-top_place-place) → u.args.which ≡ Log → (let p = u.top_place-place.result in (p.offset + p.size ≤ length (given u).log) × (p.offset + p.size ≤ 16384))
+log_fits u e = place_fits log (given u) (placed_in u Log e)
 
-tape_fits : (c : In-Tape) → (let p = c.top_place-place.result in (p.offset + p.size ≤ length (given c.before.before.before).tape) × (p.offset + p.size ≤ 16384))
-tape_fits c = let u = c.before.before.before in place_fits tape (given u) (placed_in u Tape c.in-Tape.is)
+tape_fits : (u : After-top_place-place) → u.args.which ≡ Tape → (let p = u.top_place-place.result in (p.offset + p.size ≤ length (given u).tape) × (p.offset + p.size ≤ 16384))
+tape_fits u e = place_fits tape (given u) (placed_in u Tape e)
 
 pub offset_bounds-log-start : goal.offset_bounds-log-start
-offset_bounds-log-start c = omega (arith, (log_fits (goal.at.offset_bounds-log-start c).In-Log).1)
+offset_bounds-log-start c = omega (arith, (log_fits (goal.at.offset_bounds-log-start c).After-top_place-place c.in-Log.is).1)
 
-pub slice-bounds-result-end : goal.slice-bounds-result-end
-slice-bounds-result-end c = omega (arith, (log_fits c).0)
+pub slice_bounds-result-end : goal.slice_bounds-result-end
+slice_bounds-result-end c = omega (arith, (log_fits (goal.at.slice_bounds-result-end c).After-top_place-place c.in-Log.is).0)
 
 pub offset_bounds-tape-start : goal.offset_bounds-tape-start
-offset_bounds-tape-start c = omega (arith, (tape_fits (goal.at.offset_bounds-tape-start c).In-Tape).1)
+offset_bounds-tape-start c = omega (arith, (tape_fits (goal.at.offset_bounds-tape-start c).After-top_place-place c.in-Tape.is).1)
 
-pub slice-bounds-result-end-2 : goal.slice-bounds-result-end-2
-slice-bounds-result-end-2 c = omega (arith, (tape_fits c).0)
+pub slice_bounds-result-end-in-Tape : goal.slice_bounds-result-end-in-Tape
+slice_bounds-result-end-in-Tape c = omega (arith, (tape_fits (goal.at.slice_bounds-result-end-in-Tape c).After-top_place-place c.in-Tape.is).0)
 
 pub returns-in-Log : goal.returns-in-Log
-returns-in-Log c = let u = (goal.at.returns-in-Log c).After-top_place-place in let e = c.in-Log.is in (cut_in u Log e, there_in u Log e)
+returns-in-Log c = let u = (goal.at.returns-in-Log c).After-top_place-place in let e = c.in-Log.is in record { shown = cut_in u Log e; there = there_in u Log e }
 
 pub returns-in-Tape : goal.returns-in-Tape
-returns-in-Tape c = let u = (goal.at.returns-in-Tape c).After-top_place-place in let e = c.in-Tape.is in (cut_in u Tape e, there_in u Tape e)
+returns-in-Tape c = let u = (goal.at.returns-in-Tape c).After-top_place-place in let e = c.in-Tape.is in record { shown = cut_in u Tape e; there = there_in u Tape e }

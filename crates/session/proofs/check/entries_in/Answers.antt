@@ -1,13 +1,13 @@
 -- `entries_in`: what is left to count from here is the whole count.
 use mathlib.Core.Path.{refl, sym, ap, ◌∙◌}
-use mathlib.Core.Logic.{⊎_elim}
-use Prim.Native.Nat.{◌+◌, ◌-◌, ◌<◌}
+use Prim.Native.Nat.{◌+◌, ◌<◌}
 use native.Mathlib.Omega.{arith}
 use lib.ListN.{length, drop, get_or}
 use Rattle.term.specs.Table.{table_in}
 use Rattle.session.specs.Counting.{have_words}
 use Rattle.session.proofs.Words.{count_most, words_end, words_bullet, words_stop, words_more}
 use Rattle.session.proofs.check.entries_in.Goals as goal
+use Rattle.session.proofs.check.entries_in.Goals.{then-is_bullet, else-is_bullet+else-have-eq0}
 
 pub loop-i-init : goal.loop-i-init
 loop-i-init c = (omega arith, omega arith, refl)
@@ -53,20 +53,20 @@ loop-i-preserved c =
     let i = l.loop-i.i in
     let h : i < length s = omega arith in
     let e = sym c.is_bullet.ensures in
-    ⊎_elim
-    (λ w. (
-      omega arith,
-      omega (arith, w.1),
-      l.loop-i.invariant.2 ∙ words_bullet T a.bullets s i l.loop-i.have h (e ∙ w.0.taken) ∙ ap (λ k. have_words a.bullets T (drop (i + 1) s) k) (sym w.1),
-    ))
-    (λ w. (
-      omega arith,
-      omega (arith, count_most T (get_or s i 0) l.loop-i.have, w.2.ensures, w.4),
-      l.loop-i.invariant.2
-          ∙ words_more T a.bullets s i l.loop-i.have h (e ∙ w.0.left) w.2.result w.2.ensures w.3.left
-          ∙ ap (λ k. have_words a.bullets T (drop (i + 1) s) k) (sym w.4),
-    ))
-    c.if-is_bullet.branch
+    elim c.if-is_bullet.branch [
+      | then-is_bullet w ↦ (
+        omega arith,
+        omega (arith, w.have-is),
+        l.loop-i.invariant.2 ∙ words_bullet T a.bullets s i l.loop-i.have h (e ∙ w.if-is_bullet.true) ∙ ap (λ k. have_words a.bullets T (drop (i + 1) s) k) (sym w.have-is),
+      )
+      | else-is_bullet+else-have-eq0 w ↦ (
+        omega arith,
+        omega (arith, count_most T (get_or s i 0) l.loop-i.have, w.entries_with-have.ensures, w.have-is),
+        l.loop-i.invariant.2
+            ∙ words_more T a.bullets s i l.loop-i.have h (e ∙ w.if-is_bullet.false) w.entries_with-have.result w.entries_with-have.ensures w.if-have-eq0.false
+            ∙ ap (λ k. have_words a.bullets T (drop (i + 1) s) k) (sym w.have-is),
+      )
+    ]
 
 pub returns : goal.returns
 returns c =

@@ -1,11 +1,10 @@
 -- `holds_state`: a length over its slice, or a word not 0 above a top, leaves no state; where there is neither, the walk answers.
 use mathlib.Core.Path.{◌≡◌, refl, sym, ap}
-use mathlib.Core.Bool.{Bool, true, false, not}
+use mathlib.Core.Bool.{Bool, true, false}
 use mathlib.Core.List.{List}
 use Prim.Native.Nat.{ℕ, ◌-◌}
 use native.Mathlib.Omega.{arith}
 use lib.ListN.{length, take, drop}
-use borrow.Author.Tests.{not-true, not-false}
 use Rattle.term.specs.Table.{table_in}
 use Rattle.machine.specs.Slice.{all_zero}
 use Rattle.session.specs.Types.{session_meant}
@@ -24,9 +23,9 @@ looked : (s : List ℕ) (k : ℕ) (r : Bool) → r ≡ all_zero (take (length s 
 looked s k r e = ap as_number (sym (zeros_past s k e refl))
 
 -- past `if !r`, r holds
-past : (r : Bool) → not r ≡ false → as_number r ≡ 1
+past : (r : Bool) → r ≡ true → as_number r ≡ 1
 unfolding as_number
-past r e = ap as_number (not-false r e)
+past r e = ap as_number e
 
 -- and a test that is 1 holds, which is what the walk demands of two
 holds : (b : Bool) → as_number b ≡ 1 → b ≡ true
@@ -51,13 +50,13 @@ pub returns-then-not-zeros : goal.returns-then-not-zeros
 returns-then-not-zeros c =
     let a = c.args in
     log_dirty (table_in a.table.now a.n) (session_meant a.session) a.log.now a.tape.now
-    (zeros_past a.log.now a.session.log_len c.zeros.ensures (not-true c.zeros.result c.if-not-zeros.true))
+    (zeros_past a.log.now a.session.log_len c.zeros.ensures c.if-not-zeros.true)
 
 pub returns-then-not-zeros-2 : goal.returns-then-not-zeros-2
 returns-then-not-zeros-2 c =
     let a = c.args in
     tape_dirty (table_in a.table.now a.n) (session_meant a.session) a.log.now a.tape.now
-    (zeros_past a.tape.now a.session.tape_len c.zeros-2.ensures (not-true c.zeros-2.result c.if-not-zeros-2.true))
+    (zeros_past a.tape.now a.session.tape_len c.zeros-2.ensures c.if-not-zeros-2.true)
 
 pub returns : goal.returns
 returns c = c.walk_entries.ensures

@@ -1,7 +1,6 @@
 -- `lent_number` puts 7 before 8.
 use mathlib.Core.Path.{◌≡◌, sym, ap, ◌∙◌}
 use mathlib.Core.Bool.{true}
-use borrow.Author.Tests.{not-true, not-false}
 use Rattle.term.specs.Accepted.{accepted}
 use Rattle.session.specs.Types.{number_meant}
 use Rattle.calls.proofs.Unrefused.{lent_seven, lent_log_eight, lent_tape_eight, lent_unrefused}
@@ -11,10 +10,10 @@ use Rattle.session.proofs.check.lent_number.Goals.{Else-not-accepts}
 pub returns-then-not-accepts : goal.returns-then-not-accepts
 returns-then-not-accepts c =
     let a = c.args in
-    sym (ap number_meant (lent_seven a.table.now a.n a.log.now a.tape.now (sym c.accepts.ensures ∙ not-true c.accepts.result c.if-not-accepts.true)))
+    sym (ap number_meant (lent_seven a.table.now a.n a.log.now a.tape.now (sym c.accepts.ensures ∙ c.if-not-accepts.true)))
 
 accepted_there : (u : Else-not-accepts) → accepted u.args.table.now u.args.n ≡ true
-accepted_there u = sym u.accepts.ensures ∙ not-false u.accepts.result u.if-not-accepts.false
+accepted_there u = sym u.accepts.ensures ∙ u.if-not-accepts.false
 
 pub returns-then-log-gt16384 : goal.returns-then-log-gt16384
 returns-then-log-gt16384 c =

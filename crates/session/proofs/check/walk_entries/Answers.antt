@@ -4,7 +4,6 @@ use Prim.Native.Nat.{◌≤◌}
 use native.Mathlib.Omega.{arith}
 use lib.ListN.{take}
 use lib.Seq.{length-take-le}
-use borrow.Author.Tests.{not-true, not-false}
 use Rattle.term.specs.Table.{table_in}
 use Rattle.term.proofs.Table.{nodes_are}
 use Rattle.session.specs.Counting.{have_log}
@@ -39,7 +38,7 @@ returns-then-not-is_log c =
     let T = table_in a.table.now a.n in
     log_miscounted T (session_meant a.session) a.log.now a.tape.now
     (counted_to (have_log T (take a.session.log_len a.log.now) 0) c.level-level.result (T.level a.session.node)
-    c.level-level.ensures c.is_log.ensures (not-true c.is_log.result c.if-not-is_log.true))
+    c.level-level.ensures c.is_log.ensures c.if-not-is_log.true)
 
 pub slice_bounds-is_tape-end : goal.slice_bounds-is_tape-end
 slice_bounds-is_tape-end c =
@@ -48,15 +47,13 @@ slice_bounds-is_tape-end c =
 
 pub returns : goal.returns
 returns c =
-    let start = c.before.before.before.before.before.before.before.before.before.before.before.before.before.before.before in
-    let a = start.args in
+    let a = c.args in
     let T = table_in a.table.now a.n in
-    let u = c in
     let from_one : 1 ≤ a.session.node = omega arith in
     let to_last : a.session.node ≤ T.nodes = omega (arith, nodes_are a.table.now a.n) in
     let few : a.session.turns ≤ a.session.position = omega arith in
     c.is_tape.ensures
     ∙ tape_decides T (session_meant a.session) a.log.now a.tape.now
-    from_one to_last start.requires.0.0 start.requires.0.1 start.requires.1.0 start.requires.1.1 few
-    (counted_to (have_log T (take a.session.log_len a.log.now) 0) u.level-level.result (T.level a.session.node)
-    u.level-level.ensures u.is_log.ensures (not-false u.is_log.result u.if4.false))
+    from_one to_last c.requires.log_len_in_bounds.0 c.requires.log_len_in_bounds.1 c.requires.log_value.0 c.requires.log_value.1 few
+    (counted_to (have_log T (take a.session.log_len a.log.now) 0) c.level-level.result (T.level a.session.node)
+    c.level-level.ensures c.is_log.ensures c.if-not-is_log.false)

@@ -1,6 +1,5 @@
 -- `zeros`: every word passed is 0, so what is left decides.
 use mathlib.Core.Path.{refl, sym, ◌∙◌}
-use Prim.Native.Nat.{◌-◌}
 use native.Mathlib.Omega.{arith}
 use Rattle.session.proofs.Words.{zero_more, zero_stop, zero_end}
 use Rattle.session.proofs.check.zeros.Goals as goal

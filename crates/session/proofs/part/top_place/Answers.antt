@@ -46,7 +46,7 @@ pub place_in-requires-in-Tape : goal.place_in-requires-in-Tape
 place_in-requires-in-Tape c = let h = (ready (goal.at.place_in-requires-in-Tape c).Else-number-ne0).token.enters in (h.holds.tape_fits, h.short_tape)
 
 pub returns-in-Log : goal.returns-in-Log
-returns-in-Log c = let u = (goal.at.returns-in-Log c).Else-number-ne0 in as_shown u Log c.in-Log.is (c.IsPlace-in.ensures ∙ log_place (ready u).token)
+returns-in-Log c = let u = (goal.at.returns-in-Log c).Else-number-ne0 in as_shown u Log c.in-Log.is (c.place_in.ensures ∙ log_place (ready u).token)
 
 pub returns-in-Tape : goal.returns-in-Tape
 returns-in-Tape c = let u = (goal.at.returns-in-Tape c).Else-number-ne0 in as_shown u Tape c.in-Tape.is (c.place_in-in-Tape.ensures ∙ tape_place (ready u).token)

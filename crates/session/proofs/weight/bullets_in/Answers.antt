@@ -1,10 +1,10 @@
 -- `bullets_in`: those found and those to come are all there are.
-use mathlib.Core.Logic.{⊎_elim}
-use Prim.Native.Nat.{◌-◌, ◌<◌}
+use Prim.Native.Nat.{◌<◌}
 use native.Mathlib.Omega.{arith}
 use lib.ListN.{length}
 use Rattle.session.proofs.Weighing.{bullet_next, other_next, none_next}
 use Rattle.session.proofs.weight.bullets_in.Goals as goal
+use Rattle.session.proofs.weight.bullets_in.Goals.{then-words-i-eq0, else-words-i-eq0}
 
 pub loop-i-init : goal.loop-i-init
 loop-i-init c = (omega arith, omega arith, omega arith)
@@ -30,10 +30,10 @@ loop-i-preserved c =
     let s = l.args.words.now in
     let i = l.loop-i.i in
     let h : i < length s = omega arith in
-    ⊎_elim
-    (λ w. (omega arith, omega (arith, w.1), omega (arith, w.1, bullet_next s i h w.0.taken)))
-    (λ w. (omega arith, omega (arith, w.1), omega (arith, w.1, other_next s i h w.0.left)))
-    c.if-words-i-eq0.branch
+    elim c.if-words-i-eq0.branch [
+      | then-words-i-eq0 w ↦ (omega arith, omega (arith, w.bullets-is), omega (arith, w.bullets-is, bullet_next s i h w.if-words-i-eq0.true))
+      | else-words-i-eq0 w ↦ (omega arith, omega (arith, w.bullets-is), omega (arith, w.bullets-is, other_next s i h w.if-words-i-eq0.false))
+    ]
 
 pub returns : goal.returns
 returns c = let l = c in omega (arith, none_next l.args.words.now l.loop-i.i (omega arith))

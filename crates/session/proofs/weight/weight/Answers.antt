@@ -9,7 +9,7 @@ pub returns : goal.returns
 returns c = let a = c.args in ap (λ x. a.bullets + x * (words_of a.session - a.bullets)) c.digits.ensures
 
 pub overflow_mul-result : goal.overflow_mul-result
-overflow_mul-result c = omega (arith, returns (goal.at.overflow_mul-result c).After-digits, c.requires.light)
+overflow_mul-result c = let a = c.args in omega (arith, ap (λ x. a.bullets + x * (words_of a.session - a.bullets)) c.digits.ensures, c.requires.light)
 
 pub overflow_add-result : goal.overflow_add-result
-overflow_add-result c = omega (arith, returns (goal.at.overflow_add-result c).After-digits, c.requires.light)
+overflow_add-result c = let a = c.args in omega (arith, ap (λ x. a.bullets + x * (words_of a.session - a.bullets)) c.digits.ensures, c.requires.light)

@@ -63,7 +63,7 @@ returns-then-is_far c ls s h =
 pub returns-else-is_far : goal.returns-else-is_far
 returns-else-is_far c =
     let u = c in
-    let k = u.before.before.before.before.before in
+    let k = (goal.at.returns-else-is_far c).After-chosen-fit in
     let way = way_meant k.args.way in
     rw c.with_turns.ensures
     (λ ls s h.

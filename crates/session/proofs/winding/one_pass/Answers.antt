@@ -8,7 +8,7 @@ use Rattle.session.specs.declared.winding.Before.TheVariants.{Makes}
 use Rattle.session.proofs.Facing.{token_facing, position_facing, turns_facing}
 use Rattle.session.proofs.Passes.{halts, fits_facing, log_fills, tape_fills, goes_on}
 use Rattle.session.proofs.winding.one_pass.Goals as goal
-use Rattle.session.proofs.winding.one_pass.Goals.{After-slice_known-in-Makes-2-1, In-Makes}
+use Rattle.session.proofs.winding.one_pass.Goals.{In-Makes, After-step-stepped}
 
 -- what was told before the step, of a state that the session holds
 makes : (c : In-Makes) (s : State) → (let a = c.args in
@@ -17,12 +17,12 @@ makes c s h = c.in-Makes.ensures c.args.log.now s h
 
 pub step-stepped-requires : goal.step-stepped-requires
 step-stepped-requires c =
-    let p = c.before.before.before.before.before.before.before.before.before.before.before in
-    let h = p.requires.token in
-    fits_facing h (way_meant p.args.way) c.in-Makes.rule c.in-Makes.turns (makes (goal.at.step-stepped-requires c).In-Makes p.requires.state h) c.facing_session-about.result (token_facing h (way_meant p.args.way) c.facing_session-about.ensures)
+    let h = c.requires.token in
+    let way = way_meant c.args.way in
+    fits_facing h way c.in-Makes.rule c.in-Makes.turns (makes (goal.at.step-stepped-requires c).In-Makes c.requires.state h) c.facing_session-about.result (token_facing h way c.facing_session-about.ensures)
 
 -- what the step did, from that state
-stepped : (u : After-slice_known-in-Makes-2-1) (s : State) → (let a = u.args in
+stepped : (u : After-step-stepped) (s : State) → (let a = u.args in
     let f = u.facing_session-about in
     let k = u.step-stepped in
     TokenAt a.table.now a.n a.session a.log.now a.tape.now s → StepIs a.table.now a.n f.result a.log.now a.tape.now (facing (way_meant a.way) s) k.result k.new.log k.new.tape)
@@ -36,22 +36,22 @@ returns-in-Ends c = λ s h. halts h (way_meant c.args.way) c.in-Ends.stop (c.in-
 
 pub returns-in-Made : goal.returns-in-Made
 returns-in-Made c =
-    let u = (goal.at.returns-in-Made c).After-slice_known-in-Makes-2-1 in
+    let u = (goal.at.returns-in-Made c).After-step-stepped in
     let way = way_meant u.args.way in
     let f = u.facing_session-about in
     let k = u.step-stepped in
     λ s h.
-    goes_on h way u.in-Makes.rule u.in-Makes.turns (makes u.before.before.before.before.before.before.before.before s h) f.result _ _ k.auto.log k.auto.tape
+    goes_on h way u.in-Makes.rule u.in-Makes.turns (makes (goal.at.returns-in-Made c).In-Makes s h) f.result _ _ k.auto.log k.auto.tape
     c.in-Made.to c.after_step-next.result (rw c.in-Made.is at (stepped u s h))
     (ap (λ x. x.position) f.ensures ∙ position_facing way (session_meant u.args.session))
     (ap (λ x. x.turns) f.ensures ∙ turns_facing way (session_meant u.args.session)) c.after_step-next.ensures
 
 pub returns-in-LogFull : goal.returns-in-LogFull
 returns-in-LogFull c =
-    let u = (goal.at.returns-in-LogFull c).After-slice_known-in-Makes-2-1 in
-    λ s h. log_fills h (way_meant u.args.way) u.in-Makes.rule u.in-Makes.turns (makes u.before.before.before.before.before.before.before.before s h) u.facing_session-about.result _ _ (rw c.in-LogFull.is at (stepped u s h))
+    let u = (goal.at.returns-in-LogFull c).After-step-stepped in
+    λ s h. log_fills h (way_meant u.args.way) u.in-Makes.rule u.in-Makes.turns (makes (goal.at.returns-in-LogFull c).In-Makes s h) u.facing_session-about.result _ _ (rw c.in-LogFull.is at (stepped u s h))
 
 pub returns-in-TapeFull : goal.returns-in-TapeFull
 returns-in-TapeFull c =
-    let u = (goal.at.returns-in-TapeFull c).After-slice_known-in-Makes-2-1 in
-    λ s h. tape_fills h (way_meant u.args.way) u.in-Makes.rule u.in-Makes.turns (makes u.before.before.before.before.before.before.before.before s h) u.facing_session-about.result _ _ (rw c.in-TapeFull.is at (stepped u s h))
+    let u = (goal.at.returns-in-TapeFull c).After-step-stepped in
+    λ s h. tape_fills h (way_meant u.args.way) u.in-Makes.rule u.in-Makes.turns (makes (goal.at.returns-in-TapeFull c).In-Makes s h) u.facing_session-about.result _ _ (rw c.in-TapeFull.is at (stepped u s h))
