@@ -1,4 +1,4 @@
-// The readers, the writers, the conversions, the calls on a session and the run of Krivine's machine for a host in another language: host/yildreuz.h declares these functions, and the structs of `face`, in C.
+// The readers, the writers, the conversions, the calls on a session and the run of Krivine's machine for a host in another language: `yildreuz_c` exports these functions, and host/yildreuz.h declares them, and the structs of `face`, in C.
 #![tactic(auto)]
 
 ghost use Rattle.std.specs.Prelude.{◌≡◌};
