@@ -29,14 +29,14 @@ ReadIf In words ws a none = Unit
 ReadIf In words ws a (some b) = In b × (reverse (words b) ≡ reverse (words a) ++ ws)
 
 module _ {A : Type 0} (In : A → Type 0) (words : A → List ℕ) (put : ℕ → A → Option A) (read : List ℕ → A → Option A)
-    (Read-none : (a : A) → read [] a ≡ some a) (read_more : (v : ℕ) (ws : List ℕ) (a : A) → read (v ∷ ws) a ≡ (put v a >>= λ b. read ws b))
+    (read_none : (a : A) → read [] a ≡ some a) (read_more : (v : ℕ) (ws : List ℕ) (a : A) → read (v ∷ ws) a ≡ (put v a >>= λ b. read ws b))
     (put_one : (v : ℕ) (a : A) → In a → PutIf In words v a (put v a)) where
   widen : (v : ℕ) (ws : List ℕ) (a b : A) (o : Option A) → words b ≡ v ∷ words a → ReadIf In words ws b o → ReadIf In words (v ∷ ws) a o
   widen v ws a b none e h = tt
   widen v ws a b (some c) e h = (h.0, h.1 ∙ ap (λ q. reverse q ++ ws) e ∙ reverse_apart (v ∷ []) (words a) ws)
 
   read_all : (ws : List ℕ) (a : A) → In a → ReadIf In words ws a (read ws a)
-  read_all [] a h = subst (ReadIf In words [] a) (sym (Read-none a)) (h, sym (append-nil (reverse (words a))))
+  read_all [] a h = subst (ReadIf In words [] a) (sym (read_none a)) (h, sym (append-nil (reverse (words a))))
   read_all (v ∷ ws) a h = subst (ReadIf In words (v ∷ ws) a) (sym (read_more v ws a)) (more (λ b g. read_all ws b g) (put v a) (put_one v a h))
     where
       more : ((b : A) → In b → ReadIf In words ws b (read ws b)) → (o : Option A) → PutIf In words v a o → ReadIf In words (v ∷ ws) a (o >>= λ b. read ws b)

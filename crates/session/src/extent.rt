@@ -1,12 +1,12 @@
 // The arity of a variable, and how many words the top entries of a list take.
 ghost use Rattle.std.specs.Prelude.{◌≡◌, ◌≤◌};
-ghost use Rattle.term.specs.Table.{table_in, arity as arityOf};
+ghost use Rattle.term.specs.Table.{table_in, arity as arity_of};
 ghost use Rattle.calls.specs.Calls.{longest};
 ghost use Rattle.session.specs.Extent.{ListIn, span_below};
 
 // The arity of a variable: its level less its binder's level, and 0 where that is less than nothing.
 pub(crate) fn arity(table: &[u16], n: u32, v: u32) -> u32
-    ensures { result ≡ arityOf (table_in table.now n) v }
+    ensures { result ≡ arity_of (table_in table.now n) v }
 {
     let own = term::level(table, n, v);
     let binder = term::left(table, n, v);

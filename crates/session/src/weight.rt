@@ -1,6 +1,6 @@
 // What a state weighs (document 02, change 2): one for a bullet, and for a logged position as much as n has binary digits.
 ghost use Rattle.std.specs.Prelude.{◌≡◌, ◌≤◌, length};
-ghost use Rattle.calls.specs.Digits.{digits as digitsOf};
+ghost use Rattle.calls.specs.Digits.{digits as digits_of};
 ghost use Rattle.calls.specs.Weight.{zero_words};
 ghost use Rattle.calls.specs.Calls.{longest};
 ghost use Rattle.session.specs.Weight.{weight_of, Weighable, bullets_after, HasCount};
@@ -10,7 +10,7 @@ use crate::choice::Rule;
 
 // X, how many binary digits n has: those of a word but for its leading zeros.
 fn digits(n: u32) -> u32
-    ensures { result ≡ digitsOf n }
+    ensures { result ≡ digits_of n }
 {
     32 - u32::leading_zeros(n)
 }

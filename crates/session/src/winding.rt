@@ -1,6 +1,6 @@
 // The steps of a call: forward or back until a stop, or until the token stands on a chosen node in a chosen direction.
 ghost use Rattle.std.specs.Prelude.{◌≡◌, ◌+◌, ◌*◌, max, ◌≤◌, ◌<◌, length};
-ghost use Rattle.machine.specs.Machine.{turned as otherDir};
+ghost use Rattle.machine.specs.Machine.{turned as other_dir};
 ghost use Rattle.machine.specs.Turns.{turn_between};
 ghost use Rattle.calls.specs.Calls.{longest};
 ghost use Rattle.calls.specs.Visits.{spot};
@@ -38,7 +38,7 @@ pub(crate) enum Pass {
 }
 
 fn turned_dir(d: Dir) -> Dir
-    ensures { dir_meant result ≡ otherDir (dir_meant d) }
+    ensures { dir_meant result ≡ other_dir (dir_meant d) }
 {
     match d {
         Dir::Down => Dir::Up,
