@@ -11,6 +11,7 @@ use borrow.Author.Tests.{eq-eqb, le-leb, eqb-true, leb-true}
 use Rattle.term.specs.Term.{Term, size, Closed}
 use Rattle.term.specs.Table.{table_of, table_in}
 use Rattle.term.specs.Rows.{RowsIn}
+use Rattle.term.specs.Tree.{LentTree}
 use Rattle.term.specs.Accepted.{most_nodes, Accepted, Part, part, part_at, is_whole, accepted}
 use Rattle.term.proofs.Choice.{both, each, fails}
 use Rattle.term.proofs.Rows.{size_positive}
@@ -66,3 +67,7 @@ module _ (w : List ℕ) (n : ℕ) where
 
 pub table_closed : (t : Term) → Closed t → size t ≤ most_nodes → (w : List ℕ) → 5 * size t ≤ length w → take (5 * size t) w ≡ table_of t → Accepted w (size t)
 table_closed t c m w l e = record { some_node = size_positive t; few_nodes = m; long = l; term = t; closed = c; same = sym e }
+
+-- the same of a tree, in words
+pub tree_accepted : (t : LentTree) → Accepted t.words t.n
+tree_accepted t = accepts_only t.words t.n t.is_accepted

@@ -4,6 +4,8 @@ pub mod Stores
 pub mod Rows
 pub mod Coded
 pub mod Table
+pub mod Refusals
+pub mod KindWords
 pub mod Columns
 pub mod Scope
 pub mod Reading

@@ -1,12 +1,16 @@
 -- The binders around a part: the search among them, and the scope that holds them.
 use mathlib.Core.Path.{◌≡◌, refl, sym, ap, ap₂, ◌∙◌, subst}
-use mathlib.Core.Bool.{Bool, true, false, not, cond}
+use mathlib.Core.Bool.{Bool, true, false, not, cond, ◌||◌, or-true, or-false, true≢false}
 use mathlib.Core.Option.{Option, none, some, some-injective, none-ne-some}
 use mathlib.Core.List.{List, [], ◌∷◌}
 use Prim.Native.Nat.{ℕ, zero, suc, ◌-◌, ◌≤◌, ◌<◌}
 use native.Mathlib.Nat.{not-suc-le-zero, le_of_suc-le-suc}
 use native.Mathlib.Omega.{arith}
-use lib.ListN.{length, get_or, set}
+use lib.ListN.{length, get_or, set, take}
+use native.Mathlib.Numerals.{add-one}
+use Rattle.std.specs.Prelude.{nat_eq}
+use Rattle.std.specs.List.{list_any}
+use Rattle.std.proofs.lemmas.List.Folds.{list_any_more}
 use lib.Seq.{get_or-set_same, get_or-set_other}
 use lib.Dec.{eqb}
 use borrow.Author.Tests.{eq-eqb, ne_eqb, eqb-true}
@@ -85,3 +89,14 @@ binders_push s d x h = ap₂ (λ b bs. b ∷ bs) (get_or-set_same s d x 0 h) (bi
 pub binders_inner : (s : List ℕ) (d : ℕ) → 1 ≤ d → binders_in s d ≡ get_or s (d - 1) 0 ∷ binders_in s (d - 1)
 binders_inner s zero h = absurd (omega arith)
 binders_inner s (suc d) h = let e : d ≡ suc d - 1 = omega arith in ap (λ k. get_or s k 0 ∷ binders_in s k) e
+
+-- whether one of the first words of the scope is the node
+any_more : (s : List ℕ) (d b : ℕ) → d < length s → (t : Bool) → nat_eq (get_or s d 0) b ≡ t → (is_around b (binders_in s d) || t) ≡ is_around b (binders_in s (suc d))
+any_more s d b h true e = or-true (is_around b (binders_in s d)) ∙ sym (around_here b (get_or s d 0) (binders_in s d) (eqb-true (get_or s d 0) b e))
+any_more s d b h false e = or-false (is_around b (binders_in s d)) ∙ sym (around_further b (get_or s d 0) (binders_in s d) (λ f. true≢false (sym (eq-eqb (get_or s d 0) b f) ∙ e)))
+
+pub around_any : (s : List ℕ) (d b : ℕ) → d ≤ length s → list_any (λ y. nat_eq y b) (take d s) ≡ is_around b (binders_in s d)
+around_any s zero b h = refl
+around_any s (suc d) b h =
+    ap (λ k. list_any (λ y. nat_eq y b) (take k s)) (sym (add-one d)) ∙ list_any_more (λ y. nat_eq y b) s d 0 (omega arith)
+    ∙ ap (λ t. t || nat_eq (get_or s d 0) b) (around_any s d b (omega arith)) ∙ any_more s d b (omega arith) (nat_eq (get_or s d 0) b) refl

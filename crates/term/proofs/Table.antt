@@ -75,6 +75,15 @@ pub row_before : (w : List ℕ) (n : ℕ) → Row (table_in w n) 0 0 0 0 0 0
 unfolding table_in
 row_before w n = record { kind_is = refl; left_is = refl; right_is = refl; parent_is = refl; level_is = refl }
 
+-- A word that is none of the three kinds.
+pub no_kind : (k : ℕ) → (k ≡ 1 → ⊥) → (k ≡ 2 → ⊥) → (k ≡ 3 → ⊥) → kind_of k ≡ nothing
+unfolding kind_of
+no_kind zero a b c = refl
+no_kind (suc zero) a b c = absurd (a refl)
+no_kind (suc (suc zero)) a b c = absurd (b refl)
+no_kind (suc (suc (suc zero))) a b c = absurd (c refl)
+no_kind (suc (suc (suc (suc k)))) a b c = refl
+
 pub kind_beyond : (w : List ℕ) (n i : ℕ) → n < i → kind_at (table_in w n) i ≡ nothing
 unfolding kind_of
 kind_beyond w n i h = ap kind_of (row_beyond w n i h).kind_is

@@ -1,8 +1,11 @@
 pub mod Choice
 pub mod Term
 pub mod Table
+pub mod Kinds
+pub mod Refusal
 pub mod Rows
 pub mod Accepted
+pub mod Tree
 pub mod ByRows
 pub mod Facts
 pub mod Walk

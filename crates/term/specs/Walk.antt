@@ -1,19 +1,21 @@
 -- What the code's walk over the parts of a table asks and answers.
-use Rattle.std.specs.Prelude.{◌≡◌, List, [], ◌∷◌, ℕ, zero, suc, ◌-◌, ◌≤◌, ◌<◌, length, get_or}
-use Rattle.std.proofs.Math.Option.{Option, none, some}
+use Rattle.std.specs.Prelude.{◌≡◌, Option, Some, None, List, [], ◌∷◌, ℕ, zero, suc, ◌-◌, ◌≤◌, ◌<◌, length, get_or}
+use Rattle.std.proofs.Math.Option.{none, some}
+use Rattle.std.proofs.Math.Option.{Option as MathOption}
+use Rattle.term.specs.declared.kinds.Kind.{Kind}
+use Rattle.term.specs.declared.kinds.Kind.TheVariants.{Variable, Abstraction, Application}
 use Rattle.term.specs.Term.{Term}
 use Rattle.term.specs.Table.{Table}
 use Rattle.term.specs.Rows.{Row}
 use Rattle.term.specs.Accepted.{most_nodes, Part, part, part_at}
 
--- The kind of node i where it may be the root of a part with parent p and level v, and 0 where it is not:
+-- The kind of node i where it may be the root of a part with parent p and level v, and none where it is not:
 -- what stands below it, and where an application's argument begins, is left open.
-abbrev pub RootIs : Table → ℕ → ℕ → ℕ → ℕ → Type 0
-RootIs T i p v zero = (bs : List ℕ) (d : ℕ) → part_at d T bs i p v ≡ none
-RootIs T i p v (suc zero) = (i ≤ T.nodes) × Row T i 1 (T.left i) 0 p v
-RootIs T i p v (suc (suc zero)) = (i ≤ T.nodes) × Row T i 2 (suc i) 0 p v
-RootIs T i p v (suc (suc (suc zero))) = (i ≤ T.nodes) × Row T i 3 (suc i) (T.right i) p v
-RootIs T i p v (suc (suc (suc (suc k)))) = ⊥
+abbrev pub RootIs : Table → ℕ → ℕ → ℕ → Option Kind → Type 0
+RootIs T i p v None = (bs : List ℕ) (d : ℕ) → part_at d T bs i p v ≡ none
+RootIs T i p v (Some Variable) = (i ≤ T.nodes) × Row T i 1 (T.left i) 0 p v
+RootIs T i p v (Some Abstraction) = (i ≤ T.nodes) × Row T i 2 (suc i) 0 p v
+RootIs T i p v (Some Application) = (i ≤ T.nodes) × Row T i 3 (suc i) (T.right i) p v
 
 -- The binders around a node, the innermost first, where a scope holds them from the outermost on.
 abbrev pub binders_in : List ℕ → ℕ → List ℕ
@@ -28,18 +30,18 @@ pub record ScopeRoom (scope : List ℕ) (n depth i v : ℕ) : Type 0 where
   pub levels : v < i
 
 -- A part is read that ends before node r, whatever the depth, if that is enough.
-pub record PartEnds (last i r : ℕ) (read : ℕ → Option Part) : Type 0 where
+pub record PartEnds (last i r : ℕ) (read : ℕ → MathOption Part) : Type 0 where
   pub later : i < r
   pub inside : r ≤ suc last
   pub term : Term
   pub is : (d : ℕ) → suc last - i ≤ d → read d ≡ some (part term r)
 
--- The walk's answer: the node after the part whose root is node i, or 0 where there is none.
-pub record PartAnswer (last i r : ℕ) (read : ℕ → Option Part) : Type 0 where
-  pub broken : r ≡ 0 → (d : ℕ) → suc last - i ≤ d → read d ≡ none
-  pub ends : (r ≡ 0 → ⊥) → PartEnds last i r read
+-- The walk's answer: the node after the part whose root is node i, or none where there is no part.
+abbrev pub PartAnswer : ℕ → ℕ → (ℕ → MathOption Part) → Option ℕ → Type 0
+PartAnswer last i read None = (d : ℕ) → suc last - i ≤ d → read d ≡ none
+PartAnswer last i read (Some r) = PartEnds last i r read
 
 -- It leaves the binders around as they were.
-pub record PartWalked (T : Table) (before after : List ℕ) (depth i p v r : ℕ) : Type 0 where
-  pub answer : PartAnswer T.nodes i r (λ d. part_at d T (binders_in before depth) i p v)
+pub record PartWalked (T : Table) (before after : List ℕ) (depth i p v : ℕ) (r : Option ℕ) : Type 0 where
+  pub answer : PartAnswer T.nodes i (λ d. part_at d T (binders_in before depth) i p v) r
   pub same : binders_in after depth ≡ binders_in before depth

@@ -7,6 +7,14 @@ ghost use Rattle.term.specs.Table.{columns, word_in, table_in};
 ghost use Rattle.term.specs.Accepted.{most_nodes, accepted, binder_index};
 ghost use Rattle.term.specs.Walk.{RootIs, binders_in, ScopeRoom, PartWalked};
 
+mod kinds;
+mod refusal;
+mod tree;
+
+pub use kinds::{Kind, kind_of};
+pub use refusal::Refusal;
+pub use tree::Tree;
+
 // Field 0 to 4 of a node, and 0 where there is none. Document 02, change 8: "five columns of n words, 16 bits wide, one behind the other in one slice".
 fn word(table: &[u16], n: u32, node: u32, field: u32) -> u32
     requires { field < 5 }
@@ -25,6 +33,7 @@ fn word(table: &[u16], n: u32, node: u32, field: u32) -> u32
     table[field as usize * nodes + (node as usize - 1)] as u32
 }
 
+// Five names for `word` at five constants: `left(..)` says more than a field's number would, and each has its own promise.
 pub fn kind(table: &[u16], n: u32, node: u32) -> u32
     ensures { result ≡ (table_in table.now n).kind node }
 {
@@ -55,76 +64,90 @@ pub fn level(table: &[u16], n: u32, node: u32) -> u32
     word(table, n, node, 4)
 }
 
-// Whether node b is among the first `depth` binders of the scope.
+// Whether node b is among the first `depth` binders of the scope. (Scope and depth are two parameters: the walk below writes above the depth.)
 fn in_scope(scope: &[u32], depth: usize, b: u32) -> bool
     requires { depth ≤ length scope.now }
     ensures { result ≡ not (is_none (binder_index b (binders_in scope.now depth))) }
 {
-    let mut d = depth;
-    while 0 < d {
-        d -= 1;
-        if scope[d] == b {
-            return true;
-        }
-    }
-    false
+    scope[..depth].contains(&b)
 }
 
-// The kind of node i, if its own words let it be the root of a part with parent p and level v; else 0.
-fn root(table: &[u16], n: u32, i: u32, p: u32, v: u32) -> u32
+// The kind of node i, if its own words let it be the root of a part with parent p and level v.
+fn root(table: &[u16], n: u32, i: u32, p: u32, v: u32) -> Option<Kind>
     requires { n ≤ most_nodes }
     ensures { RootIs (table_in table.now n) i p v result }
 {
     if n < i {
-        return 0;
+        return None;
     }
     if parent(table, n, i) != p {
-        return 0;
+        return None;
     }
     if level(table, n, i) != v {
-        return 0;
+        return None;
     }
-    let k = kind(table, n, i);
     let l = left(table, n, i);
     let r = right(table, n, i);
-    if k == 3 {
-        return if l == i + 1 { 3 } else { 0 };
+    match kind_of(table, n, i)? {
+        Kind::Variable => {
+            if r != 0 {
+                return None;
+            }
+            Some(Kind::Variable)
+        }
+        Kind::Abstraction => {
+            if r != 0 {
+                return None;
+            }
+            if l != i + 1 {
+                return None;
+            }
+            Some(Kind::Abstraction)
+        }
+        Kind::Application => {
+            if l != i + 1 {
+                return None;
+            }
+            Some(Kind::Application)
+        }
     }
-    if r != 0 {
-        return 0;
-    }
-    if k == 2 {
-        return if l == i + 1 { 2 } else { 0 };
-    }
-    if k == 1 { 1 } else { 0 }
 }
 
-// The node after the part whose root is node i, with parent p, level v and the first `depth` binders of the scope around it; 0 where there
-// is no such part.
-fn part_end(table: &[u16], n: u32, scope: &mut [u32], depth: usize, i: u32, p: u32, v: u32) -> u32
+// The node after the part whose root is node i, with parent p, level v and the first `depth` binders of the scope around it, if there is such
+// a part.
+fn part_end(
+    table: &[u16],
+    n: u32,
+    scope: &mut [u32],
+    depth: usize,
+    i: u32,
+    p: u32,
+    v: u32,
+) -> Option<u32>
     requires { ScopeRoom scope.old n depth i v }
     ensures { PartWalked (table_in table.now n) scope.old scope.new depth i p v result }
 {
-    let k = root(table, n, i, p, v);
-    if k == 0 {
-        return 0;
+    match root(table, n, i, p, v)? {
+        Kind::Variable => {
+            let b = left(table, n, i);
+            if in_scope(scope, depth, b) {
+                Some(i + 1)
+            } else {
+                None
+            }
+        }
+        Kind::Abstraction => {
+            scope[depth] = i;
+            part_end(table, n, scope, depth + 1, i + 1, i, v)
+        }
+        Kind::Application => {
+            let j = part_end(table, n, scope, depth, i + 1, i, v)?;
+            if right(table, n, i) != j {
+                return None;
+            }
+            part_end(table, n, scope, depth, j, i, v + 1)
+        }
     }
-    if k == 1 {
-        let b = left(table, n, i);
-        return if in_scope(scope, depth, b) { i + 1 } else { 0 };
-    }
-    if k == 2 {
-        scope[depth] = i;
-        return part_end(table, n, scope, depth + 1, i + 1, i, v);
-    }
-    let j = part_end(table, n, scope, depth, i + 1, i, v);
-    if j == 0 {
-        return 0;
-    }
-    if right(table, n, i) != j {
-        return 0;
-    }
-    part_end(table, n, scope, depth, j, i, v + 1)
 }
 
 // Whether the slice holds the table of a closed term of n nodes, from 1 to 3,000.
@@ -141,5 +164,5 @@ pub fn accepts(table: &[u16], n: u32) -> bool
         return false;
     }
     let mut scope = [0u32; 3000];
-    part_end(table, n, &mut scope, 0, 1, 0, 0) == n + 1
+    part_end(table, n, &mut scope, 0, 1, 0, 0) == Some(n + 1)
 }
