@@ -1,231 +1,233 @@
-// The commands of the script: their words, what may follow each, and what they are. A new one is a row of the list and its case below it.
-use crate::words::{has_shape, nth_part, number_at, row_in, same_bytes};
-use session::{Dir, Which};
+// The commands of the script: their words, the numbers that follow each, and what they are.
+ghost use Rattle.std.specs.Prelude.{◌≤◌};
 
-// What a command is about.
-#[derive(Clone, Copy)]
-pub(crate) enum Topic {
-    Plain,
-    Table,
-    Log,
-    Tape,
-    OnText,
-    Accept,
-    OnSession,
-    Write,
-    ReadBack,
-    Run,
-}
+use crate::words::Words;
+use session::{Dir, Session, Which};
 
-// What concerns no slice.
-#[derive(Clone, Copy)]
-pub(crate) enum Plain {
-    Nothing,
-    Wrong,
-    Text,
-    Nodes,
-    Session,
-}
-
-// The two ways in which a text spells a term.
+// The two ways in which a text spells a term; `writer` has its own for itself alone.
 #[derive(Clone, Copy)]
 pub(crate) enum Dialect {
     Names,
     Numbers,
 }
 
-// What becomes of the text that the script says: it is read; it is converted; it is converted first, and what is written is read or converted back.
+// Bytes for a call to write into: how many, and what each of them is.
+#[derive(Clone, Copy)]
+pub(crate) struct Room {
+    pub(crate) size: usize,
+    pub(crate) byte: u8,
+    ghost fits: { size ≤ 3010 },
+}
+
+// What becomes of the words of a slice: it has so many, each the same; one of them is set, by its index; or a call gets so many of them.
+#[derive(Clone, Copy)]
+pub(crate) enum Change<T> {
+    Fill(u32, T),
+    Set(u32, T),
+    Lend(u32),
+}
+
+// What a line sets for the calls after it. The table of a tower is that of so many abstractions over one variable, which the first of them binds.
+#[derive(Clone, Copy)]
+pub(crate) enum Setting {
+    Nodes(u32),
+    Stand(Session),
+    Table(Change<u16>),
+    Log(Change<u32>),
+    Tape(Change<u32>),
+    Tower(u32),
+}
+
+// What becomes of the text that the script says: it is read; it is converted into a dialect; and what that gives is read, or converted back.
 #[derive(Clone, Copy)]
 pub(crate) enum TextCall {
-    Read,
-    Convert,
-    ConvertFirst,
+    Read(Dialect),
+    Convert(Dialect, Room),
+    ConvertAndRead(Dialect),
+    ThereAndBack(Dialect, Room),
 }
 
-// What becomes of a slice: so many words, all the same; one word; how many words a call gets; the columns of a tower; or nothing.
+// A call that winds, with what it is told: a count, a position, the node and the direction of a visit, or the position and the count that a look handed out.
 #[derive(Clone, Copy)]
-pub(crate) enum Change {
-    Fill,
-    Set,
-    Lend,
-    Tower,
-    Nothing,
-}
-
-// A call that winds, or open, with the node and the direction of the visit that it looks for, if it looks for one, or the position that it goes from, if it is handed one.
-#[derive(Clone, Copy)]
-pub(crate) enum SessionCall {
-    Open,
-    Forward,
-    Back,
-    GoTo,
+pub(crate) enum Move {
+    Forward(u32),
+    Back(u32),
+    GoTo(u32),
     BackTo(u32, Dir),
-    ForwardTo(u32, Dir),
-    Go(u32),
+    ForwardTo(u32, Dir, u32),
+    Go(u32, u32),
 }
 
-// The row of a line's word in a list of rows: a word, how many numbers follow it, and + where a text or a name may follow these. 99 is none.
-fn listed(line: &[u8], list: &[u8]) -> usize {
-    let row = row_in(list, nth_part(line, b' ', 0));
-    let numbers = number_at(list, 3 * row + 1);
-    let open_ended = same_bytes(nth_part(list, b' ', 3 * row + 2), b"+");
-    if has_shape(line, numbers, open_ended) {
-        row
+// The other calls. A walk is so many moves of one step each.
+#[derive(Clone, Copy)]
+pub(crate) enum Call {
+    Accept,
+    Write(Dialect, Room),
+    ReadBack(Dialect),
+    Open,
+    Move(Move),
+    Walk(u32),
+    WalkBack(u32),
+    Look(u32),
+    Top(Which),
+    Run(u32),
+}
+
+// A call has the name that its printed line begins with: what follows the command and its numbers, or the whole line where nothing does.
+#[derive(Clone, Copy)]
+pub(crate) enum Command<'a> {
+    Nothing,
+    Text(&'a [u8]),
+    Set(Setting),
+    OnText(TextCall, &'a [u8]),
+    Call(Call, &'a [u8]),
+}
+
+impl<'a> Command<'a> {
+    // None where the line is no command.
+    pub(crate) fn of(line: &'a [u8]) -> Option<Command<'a>> {
+        if let [] | [b'#', ..] = line {
+            return Some(Command::Nothing);
+        }
+        let mut words = Words { rest: line };
+        let word = words.word();
+        if let b"text" = word {
+            return Some(Command::Text(words.rest));
+        }
+        if let Some(setting) = setting_in(word, words) {
+            return Some(Command::Set(setting));
+        }
+        let mut after = words;
+        if let Some(call) = text_call_in(word, &mut after) {
+            return Some(Command::OnText(call, name_in(line, after)));
+        }
+        let call = call_in(word, &mut words)?;
+        Some(Command::Call(call, name_in(line, words)))
+    }
+}
+
+fn name_in<'a>(line: &'a [u8], after: Words<'a>) -> &'a [u8] {
+    if after.rest.is_empty() {
+        line
     } else {
-        99
+        after.rest
     }
 }
 
-// The row of a line's command; 98 where it says nothing.
-pub(crate) fn row_of(line: &[u8]) -> usize {
-    if line.len() == 0 {
-        return 98;
-    }
-    if line[0] == b'#' {
-        return 98;
-    }
-    listed(
-        line,
-        b"text 0 + n 1 . down 5 . up 5 . read 0 + accept 0 + \
-          open 0 + forward 1 + back 1 + go-to 1 + walk 1 + walk-back 1 + \
-          table 2 . set-table 2 . lend-table 1 . tower 1 . \
-          log 2 . set-log 2 . lend-log 1 . tape 2 . set-tape 2 . lend-tape 1 . \
-          log-top 0 + tape-top 0 + write 2 + read-back 0 + \
-          back-to 2 + forward-to 3 + \
-          read-numbers 0 + write-numbers 2 + read-numbers-back 0 + \
-          to-numbers 2 + to-names 2 + to-numbers-read 0 + to-names-read 0 + \
-          numbers-and-back 2 + names-and-back 2 + look 1 + go 2 + run 1 +",
-    )
+// A setting, after which nothing follows.
+fn setting_in(word: &[u8], numbers: Words) -> Option<Setting> {
+    let mut words = numbers;
+    let setting = match word {
+        b"n" => Setting::Nodes(words.number()?),
+        b"down" => Setting::Stand(session_in(Dir::Down, &mut words)?),
+        b"up" => Setting::Stand(session_in(Dir::Up, &mut words)?),
+        b"table" => Setting::Table(fill_in(&mut words)?),
+        b"set-table" => Setting::Table(set_in(&mut words)?),
+        b"lend-table" => Setting::Table(Change::Lend(words.number()?)),
+        b"tower" => Setting::Tower(words.number()?),
+        b"log" => Setting::Log(fill_in(&mut words)?),
+        b"set-log" => Setting::Log(set_in(&mut words)?),
+        b"lend-log" => Setting::Log(Change::Lend(words.number()?)),
+        b"tape" => Setting::Tape(fill_in(&mut words)?),
+        b"set-tape" => Setting::Tape(set_in(&mut words)?),
+        b"lend-tape" => Setting::Tape(Change::Lend(words.number()?)),
+        _ => return None,
+    };
+    words.end()?;
+    Some(setting)
 }
 
-pub(crate) fn topic_of(row: usize) -> Topic {
-    match row {
-        4 | 28 | 31..=36 => Topic::OnText,
-        5 => Topic::Accept,
-        6..=11 | 22 | 23 | 26 | 27 | 37 | 38 => Topic::OnSession,
-        12..=15 => Topic::Table,
-        16..=18 => Topic::Log,
-        19..=21 => Topic::Tape,
-        24 | 29 => Topic::Write,
-        25 | 30 => Topic::ReadBack,
-        39 => Topic::Run,
-        _ => Topic::Plain,
-    }
+fn text_call_in(word: &[u8], words: &mut Words) -> Option<TextCall> {
+    Some(match word {
+        b"read" => TextCall::Read(Dialect::Names),
+        b"read-numbers" => TextCall::Read(Dialect::Numbers),
+        b"to-names" => TextCall::Convert(Dialect::Names, room_in(words)?),
+        b"to-numbers" => TextCall::Convert(Dialect::Numbers, room_in(words)?),
+        b"to-names-read" => TextCall::ConvertAndRead(Dialect::Names),
+        b"to-numbers-read" => TextCall::ConvertAndRead(Dialect::Numbers),
+        b"names-and-back" => TextCall::ThereAndBack(Dialect::Names, room_in(words)?),
+        b"numbers-and-back" => TextCall::ThereAndBack(Dialect::Numbers, room_in(words)?),
+        _ => return None,
+    })
 }
 
-pub(crate) fn plain_of(row: usize) -> Plain {
-    match row {
-        0 => Plain::Text,
-        1 => Plain::Nodes,
-        2 | 3 => Plain::Session,
-        98 => Plain::Nothing,
-        _ => Plain::Wrong,
-    }
+fn call_in(word: &[u8], words: &mut Words) -> Option<Call> {
+    Some(match word {
+        b"accept" => Call::Accept,
+        b"write" => Call::Write(Dialect::Names, room_in(words)?),
+        b"write-numbers" => Call::Write(Dialect::Numbers, room_in(words)?),
+        b"read-back" => Call::ReadBack(Dialect::Names),
+        b"read-numbers-back" => Call::ReadBack(Dialect::Numbers),
+        b"open" => Call::Open,
+        b"walk" => Call::Walk(words.number()?),
+        b"walk-back" => Call::WalkBack(words.number()?),
+        b"look" => Call::Look(words.number()?),
+        b"log-top" => Call::Top(Which::Log),
+        b"tape-top" => Call::Top(Which::Tape),
+        b"run" => Call::Run(words.number()?),
+        _ => Call::Move(move_in(word, words)?),
+    })
 }
 
-// The direction of a session by hand.
-pub(crate) fn dir_on(row: usize) -> Dir {
-    if row == 2 { Dir::Down } else { Dir::Up }
-}
-
-// The dialect that a call reads or writes; of a conversion the one that it writes, and of two that of the first.
-pub(crate) fn dialect_of(row: usize) -> Dialect {
-    match row {
-        28..=31 | 33 | 35 => Dialect::Numbers,
-        _ => Dialect::Names,
-    }
-}
-
-pub(crate) fn text_call_of(row: usize) -> TextCall {
-    match row {
-        31 | 32 => TextCall::Convert,
-        33..=36 => TextCall::ConvertFirst,
-        _ => TextCall::Read,
-    }
-}
-
-// Whether what is written of a converted text is converted back, and not read.
-pub(crate) fn is_there_and_back(row: usize) -> bool {
-    if row == 35 { true } else { row == 36 }
+fn move_in(word: &[u8], words: &mut Words) -> Option<Move> {
+    Some(match word {
+        b"forward" => Move::Forward(words.number()?),
+        b"back" => Move::Back(words.number()?),
+        b"go-to" => Move::GoTo(words.number()?),
+        b"back-to" => Move::BackTo(words.number()?, dir_in(words)?),
+        b"forward-to" => Move::ForwardTo(words.number()?, dir_in(words)?, words.number()?),
+        b"go" => Move::Go(words.number()?, words.number()?),
+        _ => return None,
+    })
 }
 
 // A direction of the script: 0 is down, any other number up.
-fn dir_of(number: u32) -> Dir {
-    if number == 0 { Dir::Down } else { Dir::Up }
+fn dir_in(words: &mut Words) -> Option<Dir> {
+    let number = words.number()?;
+    Some(if number == 0 { Dir::Down } else { Dir::Up })
 }
 
-pub(crate) fn call_of(line: &[u8], row: usize) -> SessionCall {
-    let node = number_at(line, 1);
-    let dir = dir_of(number_at(line, 2));
-    match row {
-        6 => SessionCall::Open,
-        8 | 11 => SessionCall::Back,
-        9 => SessionCall::GoTo,
-        26 => SessionCall::BackTo(node, dir),
-        27 => SessionCall::ForwardTo(node, dir),
-        38 => SessionCall::Go(number_at(line, 1)),
-        _ => SessionCall::Forward,
-    }
+// A session by hand.
+fn session_in(dir: Dir, words: &mut Words) -> Option<Session> {
+    Some(Session {
+        node: words.number()?,
+        dir,
+        position: words.number()?,
+        log_len: words.number()?,
+        tape_len: words.number()?,
+        turns: words.number()?,
+    })
 }
 
-// The count or the position of a call that has one.
-pub(crate) fn count_of(line: &[u8], row: usize) -> u32 {
-    match row {
-        27 => number_at(line, 3),
-        38 => number_at(line, 2),
-        _ => number_at(line, 1),
-    }
+// A word of a slice; none where the number is greater than such a word.
+fn word_in<T: TryFrom<u32>>(words: &mut Words) -> Option<T>
+where
+    T::Error: Drop,
+{
+    T::try_from(words.number()?).ok()
 }
 
-// How many words of a call's line stand before a name.
-pub(crate) fn words_of(row: usize) -> usize {
-    match row {
-        6 | 22 | 23 => 1,
-        26 | 38 => 3,
-        27 => 4,
-        _ => 2,
-    }
+fn fill_in<T: TryFrom<u32>>(words: &mut Words) -> Option<Change<T>>
+where
+    T::Error: Drop,
+{
+    Some(Change::Fill(words.number()?, word_in(words)?))
 }
 
-pub(crate) fn is_open(row: usize) -> bool {
-    row == 6
+fn set_in<T: TryFrom<u32>>(words: &mut Words) -> Option<Change<T>>
+where
+    T::Error: Drop,
+{
+    Some(Change::Set(words.number()?, word_in(words)?))
 }
 
-// Whether a top entry is asked for.
-pub(crate) fn is_top(row: usize) -> bool {
-    if row == 22 { true } else { row == 23 }
-}
-
-// Whether the call is a look ahead.
-pub(crate) fn is_look(row: usize) -> bool {
-    row == 37
-}
-
-// Whether the call leaves the session as it was.
-pub(crate) fn is_glance(row: usize) -> bool {
-    if is_look(row) { true } else { is_top(row) }
-}
-
-// Of log and tape, the one whose top entry is asked for.
-pub(crate) fn which_of(row: usize) -> Which {
-    if row == 22 { Which::Log } else { Which::Tape }
-}
-
-// Whether the states of the call are compared: on the way back.
-pub(crate) fn is_compared(row: usize) -> bool {
-    row == 11
-}
-
-// Whether the call is made so many times, of one step each.
-pub(crate) fn is_walk(row: usize) -> bool {
-    if row == 10 { true } else { row == 11 }
-}
-
-pub(crate) fn change_of(row: usize) -> Change {
-    match row {
-        12 | 16 | 19 => Change::Fill,
-        13 | 17 | 20 => Change::Set,
-        15 => Change::Tower,
-        _ => Change::Lend,
+// None where the line asks for more bytes than there are, or for what is no byte's value.
+fn room_in(words: &mut Words) -> Option<Room> {
+    let size = words.number()? as usize;
+    let byte = word_in(words)?;
+    if size <= 3010 {
+        Some(Room { size, byte })
+    } else {
+        None
     }
 }

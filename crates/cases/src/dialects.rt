@@ -1,35 +1,36 @@
 // The calls of the reader, the writer and the conversions, each in the dialect that it is told.
 use crate::command::Dialect;
-use reader::Reading;
-use writer::Written;
+use term::Refusal;
 
-// Reads a text of a dialect.
-pub(crate) fn read_in(which: Dialect, text: &[u8], table: &mut [u16]) -> Reading {
-    match which {
-        Dialect::Names => reader::read(text, table),
-        Dialect::Numbers => reader::read_numbers(text, table),
+impl Dialect {
+    pub(crate) fn other(self) -> Dialect {
+        match self {
+            Dialect::Names => Dialect::Numbers,
+            Dialect::Numbers => Dialect::Names,
+        }
     }
-}
 
-// Writes a table's text in a dialect.
-pub(crate) fn write_in(which: Dialect, table: &[u16], n: u32, text: &mut [u8]) -> Written {
-    match which {
-        Dialect::Names => writer::write(table, n, text),
-        Dialect::Numbers => writer::write_numbers(table, n, text),
+    // Reads a text of it.
+    pub(crate) fn read(self, text: &[u8], table: &mut [u16]) -> Result<u32, Refusal> {
+        match self {
+            Dialect::Names => reader::read(text, table),
+            Dialect::Numbers => reader::read_numbers(text, table),
+        }
     }
-}
 
-// Converts a text of the other dialect into one of this.
-pub(crate) fn convert_to(which: Dialect, text: &[u8], out: &mut [u8]) -> Written {
-    match which {
-        Dialect::Names => dialect::to_names(text, out),
-        Dialect::Numbers => dialect::to_numbers(text, out),
+    // Writes a table's text in it.
+    pub(crate) fn write(self, table: &[u16], n: u32, text: &mut [u8]) -> Result<u32, Refusal> {
+        match self {
+            Dialect::Names => writer::write(table, n, text),
+            Dialect::Numbers => writer::write_numbers(table, n, text),
+        }
     }
-}
 
-pub(crate) fn other_than(which: Dialect) -> Dialect {
-    match which {
-        Dialect::Names => Dialect::Numbers,
-        Dialect::Numbers => Dialect::Names,
+    // Converts a text of the other dialect into one of it.
+    pub(crate) fn convert(self, text: &[u8], out: &mut [u8]) -> Result<u32, Refusal> {
+        match self {
+            Dialect::Names => dialect::to_names(text, out),
+            Dialect::Numbers => dialect::to_numbers(text, out),
+        }
     }
 }

@@ -1,21 +1,10 @@
-// What the program prints: names, numbers, sessions, stops and slices.
-use crate::command::{is_compared, is_open};
-use crate::words::{after_parts, least, nth_part};
-use session::{Dir, Look, Outcome, Session, Stop};
+// What the program prints: names, numbers, sessions, stops and words.
+use session::{Dir, Look, Outcome, Session};
+use std::fmt;
+use term::Refusal;
 
 pub(crate) fn show(rt: &impl Print, bytes: &[u8]) {
     let _whole = rt.write_all(bytes);
-}
-
-// A label and a number of up to 64 bits.
-fn show_sum(rt: &impl Print, label: &[u8], n: u64) {
-    show(rt, label);
-    let _whole = rt.print(n);
-}
-
-// A label and a number.
-pub(crate) fn show_number(rt: &impl Print, label: &[u8], n: u32) {
-    show_sum(rt, label, n as u64);
 }
 
 // A line that is no command, or one that asks for too much.
@@ -25,209 +14,84 @@ pub(crate) fn show_wrong(rt: &impl Print, line: &[u8]) {
     show(rt, b"\n");
 }
 
-// A blank and a number.
-pub(crate) fn show_word(rt: &impl Print, n: u32) {
-    show_number(rt, b" ", n);
-}
-
-// A word that comes so many times in a row.
-#[derive(Clone, Copy)]
-struct Run {
-    word: u32,
-    times: u32,
-}
-
-fn no_run() -> Run {
-    Run { word: 0, times: 0 }
-}
-
-// The word, if at all: each time, or, where these are more than three, once with how many.
-fn show_run(rt: &impl Print, run: Run) {
-    let word = run.word;
-    let times = run.times;
-    if 0 < times {
-        show_word(rt, word);
-    }
-    if 3 < times {
-        show_number(rt, b"*", times);
-        return;
-    }
-    if 1 < times {
-        show_word(rt, word);
-    }
-    if 2 < times {
-        show_word(rt, word);
+// A label and words, in order: of more than three in a row that are the same, one and how many.
+pub(crate) fn show_words<T: Copy + PartialEq + fmt::Display>(
+    rt: &impl Print,
+    label: &str,
+    words: &[T],
+) {
+    let _label = rt.print(label);
+    for run in words.chunk_by(|a, b| a == b) {
+        match run {
+            [word, _, _, _, ..] => {
+                let times = run.len();
+                let _run = print!(rt; " {word}*{times}");
+            }
+            _ => {
+                for word in run {
+                    let _word = print!(rt; " {word}");
+                }
+            }
+        }
     }
 }
 
-// The run with one word more. Another word than its own ends it: it is shown, and the next one begins.
-fn with_word(rt: &impl Print, run: Run, word: u32) -> Run {
-    if word == run.word {
-        return Run {
-            word: word,
-            times: std::num::wrapping_add_u32(run.times, 1),
-        };
-    }
-    show_run(rt, run);
-    Run {
-        word: word,
-        times: 1,
-    }
+// A refusal's number, and 0 where there is none.
+pub(crate) fn show_refusal<T: Drop>(rt: &impl Print, answer: Result<T, Refusal>) {
+    let refusal = answer.err().map_or(0, |refusal| refusal.number());
+    let _refusal = print!(rt; " refusal {refusal}");
 }
 
-// Every word, in order; then the same of a table's words and of bytes.
-pub(crate) fn show_words(rt: &impl Print, words: &[u32]) {
-    let mut run = no_run();
-    let mut i = 0;
-    while i < words.len() {
-        run = with_word(rt, run, words[i]);
-        i += 1;
-    }
-    show_run(rt, run);
-}
-
-pub(crate) fn wide(word: u16) -> u32 {
-    word as u32
-}
-
-fn show_table_words(rt: &impl Print, words: &[u16]) {
-    let mut run = no_run();
-    let mut i = 0;
-    while i < words.len() {
-        run = with_word(rt, run, wide(words[i]));
-        i += 1;
-    }
-    show_run(rt, run);
-}
-
-fn wide_byte(b: u8) -> u32 {
-    b as u32
-}
-
-pub(crate) fn show_bytes(rt: &impl Print, bytes: &[u8]) {
-    let mut run = no_run();
-    let mut i = 0;
-    while i < bytes.len() {
-        run = with_word(rt, run, wide_byte(bytes[i]));
-        i += 1;
-    }
-    show_run(rt, run);
-}
-
-// A direction's place among the letters of `show_session`.
-pub(crate) fn dir_place(dir: Dir) -> usize {
-    match dir {
-        Dir::Down => 0,
-        Dir::Up => 1,
-    }
+// What a call answered: a number, which is 0 where it is refused, and the refusal.
+pub(crate) fn show_answer(rt: &impl Print, label: &str, answer: Result<u32, Refusal>) {
+    let number = answer.unwrap_or(0);
+    let _number = print!(rt; " {label} {number}");
+    show_refusal(rt, answer);
 }
 
 // Node, direction, position, the lengths of log and tape, and the turns.
-fn show_session(rt: &impl Print, s: Session) {
-    let dir = s.dir;
-    show_word(rt, s.node);
-    show_number(rt, nth_part(b" d | u ", b'|', dir_place(dir)), s.position);
-    show_word(rt, s.log_len);
-    show_word(rt, s.tape_len);
-    show_word(rt, s.turns);
-}
-
-// An answer's node, a refusal's number, and 0 for the other stops.
-fn stop_number(x: Stop) -> u32 {
-    match x {
-        Stop::Answer(i) => i,
-        Stop::Refused(k) => k,
-        _ => 0,
-    }
-}
-
-// A stop's place among the names of `show_stop`.
-fn stop_place(x: Stop) -> usize {
-    match x {
-        Stop::Spent => 0,
-        Stop::Jam => 1,
-        Stop::Far => 2,
-        Stop::Start => 3,
-        Stop::LogFull => 4,
-        Stop::TapeFull => 5,
-        Stop::Found => 6,
-        Stop::None => 7,
-        Stop::Answer(_) => 8,
-        Stop::Refused(_) => 9,
-    }
-}
-
-// The stop's name, and the number of those that have one.
-fn show_stop(rt: &impl Print, x: Stop) {
-    let names = b" spent, jam, far, start, log full, tape full, found, none, answer , refused ";
-    let place = stop_place(x);
-    let name = nth_part(names, b',', place);
-    if place < 8 {
-        show(rt, name);
-    } else {
-        show_number(rt, name, stop_number(x));
-    }
+pub(crate) fn show_session(rt: &impl Print, s: Session) {
+    let dir = match s.dir {
+        Dir::Down => 'd',
+        Dir::Up => 'u',
+    };
+    let _session = print!(rt;
+        " {} {dir} {} {} {} {}",
+        s.node, s.position, s.log_len, s.tape_len, s.turns
+    );
 }
 
 // What a walk came to, or would.
-fn show_results(rt: &impl Print, steps: u32, stop: Stop, peak: u32, carried: u64) {
-    show_number(rt, b" steps ", steps);
-    show_stop(rt, stop);
-    show_number(rt, b" peak ", peak);
-    show_sum(rt, b" carried ", carried);
+fn show_results<D: fmt::Display + Drop>(
+    rt: &impl Print,
+    steps: u32,
+    end: D,
+    peak: u32,
+    carried: u64,
+) {
+    let _results = print!(rt; " steps {steps} {end} peak {peak} carried {carried}");
 }
 
-// What a look tells, and the position and the count that it hands out.
-pub(crate) fn show_look(rt: &impl Print, l: Look) {
-    let x = l.stop;
-    show_results(rt, l.steps, x, l.peak, l.carried);
-    show_number(rt, b" position ", l.position);
-    show_number(rt, b" count ", l.count);
-}
-
-// What the call of a row answered: the session after it, the steps, the stop, the peak and the words carried, or of open the session and the refusal; and of a walk back how many
-// states agreed.
-pub(crate) fn show_made(rt: &impl Print, row: usize, o: Outcome, agreed: u32) {
-    let s = o.session;
-    let x = o.stop;
-    show_session(rt, s);
-    if is_open(row) {
-        show_number(rt, b" refusal ", stop_number(x));
-        return;
-    }
-    show_results(rt, o.steps, x, o.peak, o.carried);
-    if is_compared(row) {
-        show_number(rt, b" agreed ", agreed);
+// What a call that winds answered: the session after it, the steps, the stop, the peak and the words carried; of a refusal the session given, and no step.
+pub(crate) fn show_outcome(rt: &impl Print, session: Session, answer: Result<Outcome, Refusal>) {
+    show_session(rt, session);
+    match answer {
+        Ok(o) => show_results(rt, o.steps, o.stop, o.peak, o.carried),
+        Err(refusal) => show_results(rt, 0, refusal, 0, 0),
     }
 }
 
-// A refusal, 0 for none, and the words of a part.
-pub(crate) fn show_top(rt: &impl Print, refusal: u32, part: &[u32]) {
-    show_number(rt, b" refusal ", refusal);
-    show(rt, b" part");
-    show_words(rt, part);
-}
-
-// A printed line begins with the name that follows the command and its numbers, or with the command where there is none.
-pub(crate) fn show_name(rt: &impl Print, line: &[u8], words: usize) {
-    let name = after_parts(line, b' ', words);
-    if name.len() == 0 {
-        show(rt, line);
-    } else {
-        show(rt, name);
-    }
-}
-
-// A slice's label and its words.
-pub(crate) fn show_slice(rt: &impl Print, label: &[u8], words: &[u32], size: usize) {
-    let k = least(size, words.len());
-    show(rt, label);
-    show_words(rt, &words[0..k]);
-}
-
-// The table's words as they lie in its slice, column after column.
-pub(crate) fn show_table(rt: &impl Print, table: &[u16], size: usize) {
-    let k = least(size, table.len());
-    show(rt, b" table");
-    show_table_words(rt, &table[0..k]);
+// What a look tells, and the position and the count that it hands out; of a refusal nothing but 0.
+pub(crate) fn show_told(rt: &impl Print, answer: Result<Look, Refusal>) {
+    let (position, count) = match answer {
+        Ok(l) => {
+            show_results(rt, l.steps, l.stop, l.peak, l.carried);
+            (l.position, l.count)
+        }
+        Err(refusal) => {
+            show_results(rt, 0, refusal, 0, 0);
+            (0, 0)
+        }
+    };
+    let _handed = print!(rt; " position {position} count {count}");
 }

@@ -9,10 +9,12 @@ fn put_digit(out: &mut [u8], at: usize, k: usize, digit: u32)
     requires { digit < 10 }
     ensures { out.new ≡ set out.old (at + k) (digit_byte digit) }
 {
-    if at < out.len() {
-        if k < out.len() - at {
-            out[at + k] = 48 + digit as u8;
-        }
+    let Some(index) = at.checked_add(k) else {
+        return;
+    };
+    // A test and an index, for what a write through `get_mut` leaves, no proof can cite.
+    if index < out.len() {
+        out[index] = b'0' + digit as u8;
     }
 }
 

@@ -2,20 +2,20 @@
 use mathlib.Core.Path.{◌≡◌, sym, ap, ◌∙◌}
 use mathlib.Core.List.{List}
 use Prim.Native.Nat.{ℕ}
-use borrow.Author.Tests.{eq-eqb, ne_eqb}
-use Rattle.text.specs.Reading.{Read}
-use Rattle.text.specs.Writing.{Write}
+use borrow.Author.Tests.{ne_eqb}
+use Rattle.std.specs.Prelude.{Ok, Err}
+use Rattle.term.specs.Refusal.{refusal_number}
+use Rattle.term.specs.declared.refusal.Refusal.{Refusal}
+use Rattle.term.proofs.Refusals.{refusal_some}
+use Rattle.text.specs.Writing.{Write, refused}
 use Rattle.text.specs.Dialects.{Dialect, read_in, write_in, own_table, read_then_written, convert_of}
-use Rattle.writer.specs.Types.{write_meant, refused_writing}
-use Rattle.writer.specs.declared.Written.{Written}
+use Rattle.reader.specs.Types.{read_meant}
 
-module _ (d e : Dialect) (text out : List ℕ) (r : Read) (read : r ≡ read_in d text own_table) where
-  converted : read_then_written e r out ≡ convert_of d e text out
+module _ (d e : Dialect) (text out table : List ℕ) where
+  pub refused_converts : (r : Refusal) → read_meant (Err r) table ≡ read_in d text own_table → refused (refusal_number r) out ≡ convert_of d e text out
   unfolding convert_of
-  converted = ap (λ q. read_then_written e q out) read
+  refused_converts r read = sym (rw (ne_eqb (refusal_number r) 0 (refusal_some r))) ∙ ap (λ q. read_then_written e q out) read
 
-  pub refused_converts : {w : Written} → (r.refusal ≡ 0 → ⊥) → w ≡ refused_writing r.refusal → write_meant w out ≡ convert_of d e text out
-  refused_converts h a = ap (λ w. write_meant w out) a ∙ sym (rw (ne_eqb r.refusal 0 h)) ∙ converted
-
-  pub written_converts : {q : Write} → r.refusal ≡ 0 → q ≡ write_in e r.table r.n out → q ≡ convert_of d e text out
-  written_converts h a = a ∙ sym (rw (eq-eqb r.refusal 0 h)) ∙ converted
+  pub written_converts : {q : Write} (n : ℕ) → read_meant (Ok n) table ≡ read_in d text own_table → q ≡ write_in e table n out → q ≡ convert_of d e text out
+  unfolding convert_of
+  written_converts n read a = a ∙ ap (λ q. read_then_written e q out) read

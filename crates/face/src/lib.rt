@@ -1,4 +1,5 @@
-// What a host in another language holds and gets, in numbers: the structs of host/yildreuz.h.
+// What a host in another language holds and gets, in numbers: the structs of host/yildreuz.h. C has no Option and no Result, so that a refusal's number stands beside the answer, and a
+// code beside its value.
 #![tactic(auto)]
 
 // What the readers answer. A refusal of 0 is none.

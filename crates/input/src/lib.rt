@@ -14,13 +14,8 @@ pub fn fill<R: Read>(input: &mut R, bytes: &mut [u8]) -> usize
     let mut done = 0;
     for _ in 0..u64::MAX {
         match input.read(&mut bytes[done..]) {
-            Ok(got) => {
-                if got == 0 {
-                    break;
-                }
-                done += got;
-            }
-            Err(_) => break,
+            Ok(0) | Err(_) => break,
+            Ok(got) => done += got,
         }
     }
     done

@@ -1,23 +1,10 @@
 -- The walk up from a variable, node by node: what is still to be counted.
-use mathlib.Core.Path.{◌≡◌, refl, sym, ap}
-use Prim.Native.Nat.{ℕ, zero, suc, ◌+◌, ◌-◌, ◌≤◌, ◌<◌}
+use mathlib.Core.Path.{◌≡◌, refl, ap, ◌∙◌}
+use Prim.Native.Nat.{ℕ, zero, suc, ◌+◌, ◌≤◌, ◌<◌}
 use native.Mathlib.Omega.{arith}
 use borrow.Author.Tests.{eq-eqb, ne_eqb}
-use Rattle.term.specs.Table.{Table, Kind, variable, abstraction, application, nothing, kind_of, kind_at}
+use Rattle.term.specs.Table.{Table, Kind, variable, abstraction, application, nothing, kind_at}
 use Rattle.kam.specs.Krivine.{abstractions_in, abstractions_up}
-
-pub abstraction_counts : (k : ℕ) → k ≡ 2 → abstractions_in (kind_of k) ≡ 1
-unfolding kind_of
-abstraction_counts k e = ap (λ m. abstractions_in (kind_of m)) e
-
--- of the numbers of kinds 2 alone counts
-pub other_counts : (k : ℕ) → (k ≡ 2 → ⊥) → abstractions_in (kind_of k) ≡ 0
-unfolding kind_of
-other_counts zero h = refl
-other_counts (suc zero) h = refl
-other_counts (suc (suc zero)) h = absurd (h refl)
-other_counts (suc (suc (suc zero))) h = refl
-other_counts (suc (suc (suc (suc k)))) h = refl
 
 pub one_at_most : (k : Kind) → abstractions_in k ≤ 1
 one_at_most variable = omega arith
@@ -36,12 +23,11 @@ module _ (T : Table) (b : ℕ) where
   binder_stops zero i l e = absurd (omega arith)
   binder_stops (suc left) i l e = rw (eq-eqb i b e)
 
-  other_goes_on : (left i : ℕ) → 0 < left → (i ≡ b → ⊥) → abstractions_up left T b i ≡ abstractions_in (kind_at T i) + abstractions_up (left - 1) T b (T.parent i)
+  other_goes_on : (left rest i : ℕ) → left ≡ rest + 1 → (i ≡ b → ⊥) → abstractions_up left T b i ≡ abstractions_in (kind_at T i) + abstractions_up rest T b (T.parent i)
   unfolding abstractions_up
-  other_goes_on zero i l e = absurd (omega arith)
-  other_goes_on (suc left) i l e =
-      let z : suc left - 1 ≡ left = omega arith in
-      rw (ne_eqb i b e) (ap (λ d. abstractions_in (kind_at T i) + abstractions_up d T b (T.parent i)) (sym z))
+  other_goes_on left rest i l e =
+      let z : left ≡ suc rest = omega arith in
+      ap (λ d. abstractions_up d T b i) z ∙ rw (ne_eqb i b e) refl
 
 module _ {T : Table} {b start n : ℕ} where
   pub climb_starts : Climbs T b start n start 0 n
@@ -54,9 +40,9 @@ module _ {T : Table} {b start n : ℕ} where
   pub climb_met : {i between left : ℕ} → Climbs T b start n i between left → 0 < left → i ≡ b → between ≡ abstractions_up n T b start
   climb_met {i} {between} {left} c l e = omega (arith, c.counts, binder_stops T b left i l e)
 
-  pub climb_on : {i between left k p : ℕ} → Climbs T b start n i between left → 0 < left → (i ≡ b → ⊥) → k ≡ abstractions_in (kind_at T i) → p ≡ T.parent i
-      → Climbs T b start n p (between + k) (left - 1)
-  climb_on {i} {between} {left} {k} {p} c l e a q = record {
+  pub climb_on : {i between left k p : ℕ} → Climbs T b start n i between left → (rest : ℕ) → left ≡ rest + 1 → (i ≡ b → ⊥) → k ≡ abstractions_in (kind_at T i) → p ≡ T.parent i
+      → Climbs T b start n p (between + k) rest
+  climb_on {i} {between} {left} {k} {p} c rest l e a q = record {
     few = omega (arith, c.few, one_at_most (kind_at T i));
-    counts = rw q (omega (arith, c.counts, other_goes_on T b left i l e));
+    counts = rw q (omega (arith, c.counts, other_goes_on T b left rest i l e));
   }

@@ -150,11 +150,14 @@ module _ (T : Table) (lent : List ℕ) (count : ℕ) where
     run_halted : (c : ℕ) (h : Halt) → o ≡ some h → run_from T (suc c) m ≡ ended m h
     run_halted c h e = run_halts T lent c m h (tests_are c ∙ e)
 
-    pub going_spent : count ≤ steps → record { node = x.node; steps = steps; halt = spent; records = R.words } ≡ run_from T count (start_moment lent)
+    pub going_spent : count ≤ steps → record { node = x.node; steps = count; halt = spent; records = R.words } ≡ run_from T count (start_moment lent)
     unfolding run_from
     going_spent l =
+        let all : count ≡ steps = omega (arith, g.within) in
         let none_left : count - steps ≡ 0 = omega arith in
-        stands spent (run_from T (count - steps) m) (ap (λ c. run_from T c m) none_left) ∙ g.whole
+        (λ i. record { node = x.node; steps = all i; halt = spent; records = R.words })
+        ∙ stands spent (run_from T (count - steps) m) (ap (λ c. run_from T c m) none_left)
+        ∙ g.whole
 
     module _ (less : steps < count) where
       abbrev left : ℕ

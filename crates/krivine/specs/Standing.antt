@@ -1,14 +1,18 @@
 -- What the code of a run promises of where it stands: one step on the records alone, and one pass of the loop.
-use Rattle.std.specs.Prelude.{◌≡◌, List, [], ◌∷◌, ℕ, ◌≤◌, length, eqb}
+use Rattle.std.specs.Prelude.{◌≡◌, List, [], ◌∷◌, ℕ, ◌≤◌, length, eqb, Result, Ok, Err}
 use Rattle.std.proofs.Math.Option.{Option, none}
 use Rattle.term.specs.Choice.{◌⇒◌, first, if_some}
 use Rattle.term.specs.Table.{Table, Kind, variable, abstraction, application, nothing, kind_at}
-use Rattle.kam.specs.Records.{Records, laid_by, node_by}
+use Rattle.kam.specs.Records.{Records, node_in, environment_in, next_in, laid_by, node_by}
 use Rattle.kam.specs.Runs.{Halt, answer, full, Fit, none_free, most_words}
 use Rattle.krivine.specs.Types.{halt_meant}
-use Rattle.krivine.specs.declared.runs.Pass.{Pass}
-use Rattle.krivine.specs.declared.runs.Pass.TheVariants.{On, Halted}
+use Rattle.krivine.specs.declared.Halt as declared
+use Rattle.krivine.specs.declared.records.Record.{Record}
 use Rattle.krivine.specs.declared.steps.Standing.{Standing}
+
+-- what the record of a number holds
+abbrev pub record_in : List ℕ → ℕ → Record
+record_in w r = record { node = node_in w r; environment = environment_in w r; next = next_in w r }
 
 -- a node and the records
 pub record Stood : Type 0 where
@@ -47,9 +51,9 @@ pass_by k T x = if_some (halt_by k x.records) (λ h. halted h x.records.words) (
 abbrev pub pass_of : Table → Stood → Passed
 pass_of T x = pass_by (kind_at T x.node) T x
 
-abbrev pub pass_meant : Pass → List ℕ → Passed
-pass_meant (On to) words = on (stood_meant to words)
-pass_meant (Halted h) words = halted (halt_meant h) words
+abbrev pub pass_meant : Result Standing declared.Halt → List ℕ → Passed
+pass_meant (Ok to) words = on (stood_meant to words)
+pass_meant (Err h) words = halted (halt_meant h) words
 
 -- What a pass asks: there are few words, the taken records fit, the one on top of the stack is taken, and the node is there.
 pub record Steady (T : Table) (x : Stood) : Type 0 where

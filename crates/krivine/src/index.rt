@@ -1,30 +1,23 @@
 // The index of a variable: the abstractions between it and its binder.
 ghost use Rattle.std.specs.Prelude.{◌≡◌};
-ghost use Rattle.term.specs.Table.{table_in, kind_of};
-ghost use Rattle.kam.specs.Krivine.{abstractions_in, index_at};
+ghost use Rattle.term.specs.Tree.{tree_table};
+ghost use Rattle.kam.specs.Krivine.{index_at};
 
-// A node of kind 2 is an abstraction and counts one.
-fn abstractions_in(kind: u32) -> u32
-    ensures { result ≡ abstractions_in (kind_of kind) }
-{
-    if kind == 2 { 1 } else { 0 }
-}
+use term::{Kind, Tree};
 
 // Counts on the way up from the variable's parent to its binder. No way up has more nodes than the table, so that the walk ends whatever the table.
-pub(crate) fn index_of(table: &[u16], n: u32, node: u32) -> u32
-    ensures { result ≡ index_at (table_in table.now n) node }
+pub(crate) fn index_of(tree: &Tree<'_>, node: u32) -> u32
+    ensures { result ≡ index_at (tree_table tree.now) node }
 {
-    let binder = term::left(table, n, node);
-    let mut at = term::parent(table, n, node);
+    let binder = tree.left(node);
+    let mut at = tree.parent(node);
     let mut between = 0;
-    let mut left = n;
-    while 0 < left {
+    for _ in 0..tree.n() {
         if at == binder {
-            return between;
+            break;
         }
-        between += abstractions_in(term::kind(table, n, at));
-        at = term::parent(table, n, at);
-        left -= 1;
+        between += u32::from(tree.kind(at) == Some(Kind::Abstraction));
+        at = tree.parent(at);
     }
     between
 }

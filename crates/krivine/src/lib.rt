@@ -1,8 +1,8 @@
 // Krivine's machine on a term's table, its closures as records in a lent slice (document 02, change 11).
 #![tactic(auto)]
 
-ghost use Rattle.std.specs.Prelude.{◌≡◌, List, ℕ};
-ghost use Rattle.kam.specs.Runs.{refused_run, run_of};
+ghost use Rattle.std.specs.Prelude.{◌≡◌};
+ghost use Rattle.kam.specs.Runs.{run_of};
 ghost use Rattle.krivine.specs.Types.{ran_meant};
 
 mod index;
@@ -12,36 +12,36 @@ mod steps;
 
 pub use runs::Run;
 use runs::run_on;
+use std::fmt;
+use term::{Refusal, Tree};
 
-// Why a run ended. A refusal's number comes in its place.
-#[derive(Clone, Copy)]
+// Why a run ended.
+#[derive(Clone, Copy, Debug, PartialEq, Eq)]
 pub enum Halt {
     Spent,
     Answer,
     Full,
-    Refused(u32),
 }
 
-// A number instead of a halt, and 0 for every other number.
-fn refused(number: u32) -> Run
-    ensures { (words : List ℕ) → ran_meant result words ≡ refused_run number words }
-{
-    Run {
-        node: 0,
-        steps: 0,
-        halt: Halt::Refused(number),
+impl fmt::Display for Halt {
+    fn fmt<W: fmt::Write>(&self, f: &mut fmt::Formatter<W>) -> fmt::Result {
+        match self {
+            Halt::Spent => write!(f, "spent"),
+            Halt::Answer => write!(f, "answer"),
+            Halt::Full => write!(f, "full"),
+        }
     }
 }
 
 // A run from the start, by a count, with its closures in the lent records; or refused by 7, then 16, with no word written. The slice is never read before it is written, and never cleared.
-pub fn run(table: &[u16], n: u32, records: &mut [u32], count: u32) -> Run
+pub fn run(table: &[u16], n: u32, records: &mut [u32], count: u32) -> Result<Run, Refusal>
     ensures { ran_meant result records.new ≡ run_of table.now n records.old count }
 {
-    if !term::accepts(table, n) {
-        return refused(7);
-    }
+    let Some(tree) = Tree::accept(table, n) else {
+        return Err(Refusal::NotATable);
+    };
     if 16383 < records.len() {
-        return refused(16);
+        return Err(Refusal::RecordsTooLong);
     }
-    run_on(table, n, records, count)
+    Ok(run_on(&tree, records, count))
 }

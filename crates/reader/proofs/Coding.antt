@@ -1,15 +1,15 @@
 -- The code of applied atoms: a mark for each application, and then the atoms' codes in a row. The names around a place.
 use mathlib.Core.Path.{◌≡◌, sym, ap, ◌∙◌}
 use mathlib.Core.List.{List, [], ◌∷◌, ◌++◌, append-nil, append_assoc}
-use Prim.Native.Nat.{ℕ, suc, ◌+◌, ◌≤◌, ◌<◌}
+use Prim.Native.Nat.{ℕ, suc, ◌+◌, ◌<◌}
 use native.Mathlib.Numerals.{add-one}
 use native.Mathlib.Omega.{arith}
-use lib.ListN.{length, take, set, replicate, length-set}
+use lib.ListN.{length, take, set, replicate}
 use lib.Seq.{take-take, take-set-le, take-suc-set}
 use Rattle.text.specs.Tokens.{Name}
 use Rattle.text.specs.Grammar.{Tree, apply, Atoms, no_more, ◌and◌, atom_tree, applied}
 use Rattle.reader.specs.Scanning.{name_at, names_at}
-use Rattle.reader.specs.Grammar.{tree_code, atom_code, Cursor, cursor, names_around, CodeRoom}
+use Rattle.reader.specs.Grammar.{tree_code, atom_code, Cursor, cursor, names_around}
 use Rattle.reader.proofs.Scanning.{names_at_snoc}
 use Rattle.reader.proofs.Moved.{slide}
 
@@ -40,9 +40,6 @@ around_kept w p m scope₁ out₁ e = ap (λ (l : List ℕ). names_at w.text l [
 -- the body of an abstraction: its place, the room there and the names around it
 abbrev pub body : Cursor → ℕ → ℕ → Cursor
 body w x q = cursor w.text q (set w.scope w.depth x) (w.depth + 1) (set w.out w.node 1) (w.node + 1)
-
-pub body_room : (w : Cursor) (x q : ℕ) → CodeRoom w → w.at < q → q ≤ length w.text → CodeRoom (body w x q)
-body_room w x q r on within = omega (arith, length-set w.scope w.depth x, length-set w.out w.node 1)
 
 pub around_body : (w : Cursor) (x q : ℕ) → w.depth < length w.scope → names_around (body w x q) ≡ name_at w.text x ∷ names_around w
 around_body w x q h =

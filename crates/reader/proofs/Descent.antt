@@ -18,8 +18,8 @@ use Rattle.text.specs.Binding.{index_of}
 use Rattle.reader.specs.Scanning.{name_at}
 use Rattle.reader.specs.Token.{tokens_from, MarkTo, NameTo}
 use Rattle.reader.specs.Grammar.{atoms_from, atom_from, abstraction_from, application_from, bracketed_from, variable_word, tree_code, phrase_code, atom_code, Cursor, cursor, names_around, ReadTo, CodeAnswer, Marked}
-use Rattle.reader.specs.declared.grammar.Got.{Got}
-use Rattle.reader.specs.declared.grammar.Got.TheVariants.{Read, Not}
+use Rattle.std.specs.Prelude.{Some, None}
+use Rattle.reader.specs.Types.{Got}
 use Rattle.reader.proofs.Unrolled.{phrase_from_lem, atoms_from_lem, atom_from_lem, as_phrase, application_from_lem}
 use Rattle.reader.proofs.Coding.{atoms_code, atom_count, applied_code, around_kept, body, around_body, body_kept}
 
@@ -42,7 +42,7 @@ module _ (w : Cursor) where
   pub term_abstraction : (p : ℕ) (r : Got) (scope' out' : List ℕ) → MarkTo lambda w.text w.at p
       → CodeAnswer abstraction_from phrase_code (cursor w.text p w.scope w.depth w.out w.node) r scope' out'
       → CodeAnswer phrase_from phrase_code w r scope' out'
-  term_abstraction p (Read q m) scope' out' l a = record {
+  term_abstraction p (Some (q, m)) scope' out' l a = record {
     value = a.value;
     is = phrase_from_lem (tokens_from w.text w.at) ∙ rw l.is a.is;
     on = omega arith;
@@ -52,11 +52,11 @@ module _ (w : Cursor) where
     wrote = a.wrote;
     kept = a.kept;
   }
-  term_abstraction p Not scope' out' l a = phrase_from_lem (tokens_from w.text w.at) ∙ rw l.is a
+  term_abstraction p None scope' out' l a = phrase_from_lem (tokens_from w.text w.at) ∙ rw l.is a
 
   pub term_application : (r : Got) (scope' out' : List ℕ) → after_mark lambda (tokens_from w.text w.at) ≡ none
       → CodeAnswer application_from phrase_code w r scope' out' → CodeAnswer phrase_from phrase_code w r scope' out'
-  term_application (Read q m) scope' out' n a = record {
+  term_application (Some (q, m)) scope' out' n a = record {
     value = a.value;
     is = phrase_from_lem (tokens_from w.text w.at) ∙ rw n a.is;
     on = a.on;
@@ -66,14 +66,14 @@ module _ (w : Cursor) where
     wrote = a.wrote;
     kept = a.kept;
   }
-  term_application Not scope' out' n a = phrase_from_lem (tokens_from w.text w.at) ∙ rw n a
+  term_application None scope' out' n a = phrase_from_lem (tokens_from w.text w.at) ∙ rw n a
 
   -- An abstraction.
   pub abstraction_body : (x p q : ℕ) (r : Got) (scope' out' : List ℕ) → NameTo w.text w.at x p → MarkTo dot w.text p q
       → w.depth < length w.scope → CodeAnswer phrase_from phrase_code (body w x q) r scope' out'
       → CodeAnswer abstraction_from phrase_code w r scope' out'
   unfolding tree_code
-  abstraction_body x p q (Read e m) scope' out' n d h a =
+  abstraction_body x p q (Some (e, m)) scope' out' n d h a =
       let names = around_body w x q h in
       let code : phrase_code a.value (names_around (body w x q)) ≡ phrase_code a.value (name_at w.text x ∷ names_around w) = ap (phrase_code a.value) names in
       record {
@@ -86,14 +86,7 @@ module _ (w : Cursor) where
         wrote = a.wrote ∙ rw (code, add-one);
         kept = body_kept w x scope' a.kept;
       }
-  abstraction_body x p q Not scope' out' n d h a = rw (n.is, d.is, a)
-
-  pub abstraction_no_dot : (x p : ℕ) → NameTo w.text w.at x p → after_mark dot (tokens_from w.text p) ≡ none
-      → abstraction_from (tokens_from w.text w.at) ≡ none
-  abstraction_no_dot x p n d = rw (n.is, d)
-
-  pub abstraction_no_name : name_first (tokens_from w.text w.at) ≡ none → abstraction_from (tokens_from w.text w.at) ≡ none
-  abstraction_no_name n = rw n
+  abstraction_body x p q None scope' out' n d h a = rw (n.is, d.is, a)
 
   -- An atom, and a term in brackets.
   pub atom_name : (x p word : ℕ) → NameTo w.text w.at x p → word ≡ variable_word (index_of (name_at w.text x) (names_around w))
@@ -113,7 +106,7 @@ module _ (w : Cursor) where
   pub atom_brackets : (p : ℕ) (r : Got) (scope' out' : List ℕ) → name_first (tokens_from w.text w.at) ≡ none → MarkTo opening w.text w.at p
       → CodeAnswer bracketed_from atom_code (cursor w.text p w.scope w.depth w.out w.node) r scope' out'
       → CodeAnswer atom_from atom_code w r scope' out'
-  atom_brackets p (Read q m) scope' out' n o a = record {
+  atom_brackets p (Some (q, m)) scope' out' n o a = record {
     value = a.value;
     is = atom_from_lem _ ∙ rw (n, o.is) a.is;
     on = omega arith;
@@ -123,7 +116,7 @@ module _ (w : Cursor) where
     wrote = a.wrote;
     kept = a.kept;
   }
-  atom_brackets p Not scope' out' n o a = atom_from_lem _ ∙ rw (n, o.is) a
+  atom_brackets p None scope' out' n o a = atom_from_lem _ ∙ rw (n, o.is) a
 
   pub atom_none : name_first (tokens_from w.text w.at) ≡ none → after_mark opening (tokens_from w.text w.at) ≡ none
       → atom_from (tokens_from w.text w.at) ≡ none
@@ -141,12 +134,6 @@ module _ (w : Cursor) where
       wrote = a.wrote;
       kept = a.kept;
     }
-
-    pub brackets_open : after_mark closing (tokens_from w.text p) ≡ none → bracketed_from (tokens_from w.text w.at) ≡ none
-    brackets_open c = rw (a.is, c)
-
-  pub brackets_none : phrase_from (tokens_from w.text w.at) ≡ none → bracketed_from (tokens_from w.text w.at) ≡ none
-  brackets_none n = rw n
 
   -- Atoms.
   pub more_stops : w.at ≤ length w.text → starts_atom (tokens_from w.text w.at) ≡ false → RunTo w w.at w.node 0 w.scope w.out

@@ -1,5 +1,4 @@
 -- The laws that the proofs of the reader's functions cite.
-pub mod Classes
 pub mod Runs
 pub mod Scanning
 pub mod Refusing

@@ -1,22 +1,19 @@
 -- Words written in a run, and a run moved up to make room for marks in front of it.
-use Prim.Native.Nat.{ℕ, zero, suc, ◌+◌, ◌≤◌, ◌<◌}
-use native.Mathlib.Numerals.{add-one}
+use Prim.Native.Nat.{ℕ, zero, suc, ◌+◌, ◌-◌, ◌≤◌, ◌<◌}
 use native.Mathlib.Omega.{arith}
-use mathlib.Core.Path.{◌≡◌, refl, sym, ap, ◌∙◌}
-use mathlib.Core.List.{List, [], ◌∷◌, ◌++◌, append-nil, append_assoc}
-use lib.ListN.{length, get_or, set, take, drop, replicate, length-append, length-replicate}
-use lib.Seq.{sets, sets-eq, length-sets, slice, slice-cons, slice_empty, take_at, drop_at, length-take-le, take-set-le, drop-set-lt, get_or-set_other, set_comm}
-use Rattle.term.proofs.Stores.{sets_append}
+use mathlib.Core.Path.{◌≡◌, refl, sym, ap, ap₂, ◌∙◌}
+use mathlib.Core.List.{List, [], ◌∷◌, ◌++◌, append_assoc}
+use lib.ListN.{length, set, take, drop, replicate, length-append, length-replicate}
+use lib.Seq.{sets, sets-eq, length-sets, take_at, take_all, drop_at, length-take-le, take-set-le, drop-set-lt, set_comm}
+use Rattle.std.specs.List.{copy_within}
+use Rattle.std.proofs.lemmas.Slice.{put_mid-paste}
+use borrow.Rule.Slice.PartMut.{put_mid}
 
 pub slide : (n : ℕ) (x : ℕ) (xs : List ℕ) → replicate n x ++ x ∷ xs ≡ x ∷ (replicate n x ++ xs)
 slide zero x xs = refl
 slide (suc n) x xs = ap (λ (l : List ℕ). x ∷ l) (slide n x xs)
 
 -- what lies before and after a run
-get_d_sets_before : (o : List ℕ) (i : ℕ) (vs : List ℕ) (k : ℕ) → k < i → get_or (sets o i vs) k 0 ≡ get_or o k 0
-get_d_sets_before o i [] k h = refl
-get_d_sets_before o i (v ∷ vs) k h = get_d_sets_before (set o i v) (suc i) vs k (omega arith) ∙ get_or-set_other o i k v 0 (λ e. omega arith)
-
 pub set_sets_before : (o : List ℕ) (i : ℕ) (vs : List ℕ) (k x : ℕ) → k < i → set (sets o i vs) k x ≡ sets (set o k x) i vs
 set_sets_before o i [] k x h = refl
 set_sets_before o i (v ∷ vs) k x h =
@@ -34,31 +31,6 @@ drop_run : (o : List ℕ) (i : ℕ) (vs : List ℕ) → i + length vs ≤ length
 drop_run o i vs h =
     let l : length (take i o) ≡ i = length-take-le i o (omega arith) in
     rw (sets-eq vs o i h, append_assoc) (drop_at (take i o) (vs ++ drop (i + length vs) o) i l)
-
-take_run : (o : List ℕ) (i : ℕ) (vs : List ℕ) → i + length vs ≤ length o → take (i + length vs) (sets o i vs) ≡ take i o ++ vs
-take_run o i vs h =
-    let l : length (take i o ++ vs) ≡ i + length vs = omega (arith, length-append (take i o) vs, length-take-le i o (omega arith)) in
-    rw (sets-eq vs o i h) (take_at (take i o ++ vs) (drop (i + length vs) o) (i + length vs) l)
-
-slice_run : (o : List ℕ) (i : ℕ) (vs : List ℕ) → i + length vs ≤ length o → slice i (i + length vs) (sets o i vs) ≡ vs
-slice_run o i vs h = rw (take_run o i vs h) (drop_at (take i o) vs i (length-take-le i o (omega arith)))
-
--- a run moved up word by word, from its end
-pub moved_none : (o : List ℕ) (i by : ℕ) → o ≡ sets o (i + by) (slice i i o)
-moved_none o i by = rw slice_empty
-
-pub moved_more : (o out : List ℕ) (i end by : ℕ) → i < end → end ≤ length o → out ≡ sets o (suc i + by) (slice (suc i) end o)
-    → set out (i + by) (get_or out i 0) ≡ sets o (i + by) (slice i end o)
-moved_more o out i end by h le e =
-    let s : suc i + by ≡ suc (i + by) = omega arith in
-    let g : get_or out i 0 ≡ get_or o i 0 = rw e (get_d_sets_before o (suc i + by) (slice (suc i) end o) i (omega arith)) in
-    rw (g, e, slice-cons i end o 0, s) (set_sets_before o (suc (i + by)) (slice (suc i) end o) (i + by) (get_or o i 0) (omega arith))
-
--- the marks in front, one by one
-pub marks_more : (o out : List ℕ) (i k x : ℕ) → out ≡ sets o i (replicate k x) → set out (i + k) x ≡ sets o i (replicate (k + 1) x)
-marks_more o out i k x e =
-    let s : replicate (suc k) x ≡ replicate k x ++ x ∷ [] = sym (slide k x [] ∙ ap (λ (l : List ℕ). x ∷ l) (append-nil (replicate k x))) in
-    rw (e, add-one, s, sets_append, length-replicate k x)
 
 regroup : (a r w d : List ℕ) → (a ++ r) ++ (w ++ d) ≡ (a ++ (r ++ w)) ++ d
 regroup a r w d = simp append_assoc
@@ -84,9 +56,17 @@ moved_run b ws rs i by lr room =
     ∙ regroup (take i b) rs ws (drop (i + length (rs ++ ws)) b)
     ∙ sym (sets-eq (rs ++ ws) b i (omega arith))
 
-pub marks_done : (o o₁ o₂ b ws : List ℕ) (first end by x : ℕ) → o₁ ≡ sets o (first + by) (slice first end o) → o₂ ≡ sets o₁ first (replicate by x)
-    → end + by ≤ length o → o ≡ sets b first ws → end ≡ first + length ws → o₂ ≡ sets b first (replicate by x ++ ws)
-marks_done o o₁ o₂ b ws first end by x e₁ e₂ room e l =
+-- after the run was copied, and the words that it left were filled
+pub marks_done : (o o₁ rs b ws : List ℕ) (first end by k x : ℕ) → o₁ ≡ copy_within o first end (first + by) → rs ≡ replicate by x → k ≡ by
+    → end + by ≤ length o → o ≡ sets b first ws → end ≡ first + length ws → put_mid first k o₁ rs ≡ sets b first (replicate by x ++ ws)
+marks_done o o₁ rs b ws first end by k x e₁ f ke room e l =
     let lb : length o ≡ length b = ap length e ∙ length-sets b first ws in
-    let sl : slice first end o ≡ ws = rw (e, l) (slice_run b first ws (omega arith)) in
-    e₂ ∙ rw (e₁, sl, e) (moved_run b ws (replicate by x) first by (length-replicate by x) (omega arith))
+    let n : length ws ≡ end - first = omega arith in
+    let len : length rs ≡ by = ap length f ∙ length-replicate by x in
+    let run : take (end - first) (drop first o) ≡ ws = rw (e, drop_run b first ws (omega arith)) (take_at ws (drop (first + length ws) b) (end - first) n) in
+    let moved : o₁ ≡ sets o (first + by) ws =
+    e₁ ∙ ap₂ (λ (v : List ℕ) (m : ℕ). take (first + by) o ++ v ++ drop (first + by + m) o) run (sym n) ∙ sym (sets-eq ws o (first + by) (omega arith)) in
+    let lo : length o₁ ≡ length o = ap length moved ∙ length-sets o (first + by) ws in
+    put_mid-paste first k o₁ rs rs by refl (sym ke) (sym len)
+    ∙ ap₂ (λ (v : List ℕ) (m : ℕ). take first o₁ ++ v ++ drop (first + m) o₁) (take_all by rs (omega arith)) (sym len) ∙ sym (sets-eq rs o₁ first (omega arith))
+    ∙ rw (moved, f, e) (moved_run b ws (replicate by x) first by (length-replicate by x) (omega arith))

@@ -1,15 +1,14 @@
 -- The code of a tree among names: it is the code of its form without names, and it has a word 0 exactly where there is none.
 use mathlib.Core.Path.{◌≡◌, refl, sym, ap, ap₂, ◌∙◌, subst}
-use mathlib.Core.Bool.{Bool, true, false, ◌||◌}
+use mathlib.Core.Bool.{◌||◌}
 use mathlib.Core.Option.{Option, none, some}
 use mathlib.Core.List.{List, [], ◌∷◌, ◌++◌}
-use Prim.Native.Nat.{ℕ, suc, ◌+◌, ◌≤◌, ◌<◌}
-use native.Mathlib.Numerals.{add-one}
+use Prim.Native.Nat.{ℕ, suc, ◌+◌}
 use native.Mathlib.Omega.{arith}
-use lib.ListN.{length, get_or, take, drop, drop_of_length-le, length-append}
-use lib.Seq.{drop-cons, get_or-take, length-take-le}
+use lib.ListN.{length, length-append}
 use lib.Dec.{eqb}
-use borrow.Author.Tests.{eq-eqb, ne_eqb}
+use borrow.Author.Tests.{ne_eqb}
+use Rattle.std.proofs.lemmas.List.Folds.{list_any-append}
 use Rattle.term.specs.Choice.{◌>>=◌, is_none}
 use Rattle.term.specs.Term.{Term, var, lam, app}
 use Rattle.term.specs.Code.{code_of}
@@ -60,14 +59,6 @@ none_of_two : {A B C : Type 0} (o : Option A) (q : Option B) (f : A → B → C)
 none_of_two none q f = refl
 none_of_two (some a) q f = none_of_one q (f a)
 
-pub zero_append : (ws vs : List ℕ) → any_zero (ws ++ vs) ≡ (any_zero ws || any_zero vs)
-zero_append [] vs = refl
-zero_append (w ∷ ws) vs = by_test (eqb w 0) (zero_append ws vs)
-  where
-    by_test : (t : Bool) → any_zero (ws ++ vs) ≡ (any_zero ws || any_zero vs) → (t || any_zero (ws ++ vs)) ≡ (t || any_zero ws || any_zero vs)
-    by_test true e = refl
-    by_test false e = e
-
 zero_unbound : (t : Tree) (around : List Name) → any_zero (tree_code t around) ≡ is_none (nameless t around)
 unfolding nameless tree_code
 zero_unbound (variable x) around = by_index (index_of x around)
@@ -77,7 +68,7 @@ zero_unbound (variable x) around = by_index (index_of x around)
     by_index (some k) = rw (ne_eqb (3 + k) 0 (λ e. omega arith))
 zero_unbound (binder x t) around = zero_unbound t (x ∷ around) ∙ sym (none_of_one (nameless t (x ∷ around)) lam)
 zero_unbound (apply f a) around =
-    zero_append (tree_code f around) (tree_code a around)
+    list_any-append (λ w. eqb w 0) (tree_code f around) (tree_code a around)
     ∙ ap₂ (λ s t. s || t) (zero_unbound f around) (zero_unbound a around)
     ∙ sym (none_of_two (nameless f around) (nameless a around) app)
 
@@ -88,20 +79,3 @@ tree_codes t = by_form (nameless t []) refl
     by_form : (o : Option Term) → nameless t [] ≡ o → Codes (tree_code t []) o
     by_form none e = zero_unbound t [] ∙ ap is_none e
     by_form (some u) e = (nameless_code t [] u e, (nameless_closed t [] u e).1)
-
--- Looking for a word 0 among the first n, from word i on.
-module _ (code : List ℕ) (n i : ℕ) (room : n ≤ length code) where
-  pub zero_here : i < n → get_or code i 0 ≡ 0 → any_zero (drop i (take n code)) ≡ true
-  zero_here h e =
-      let l = length-take-le n code room in
-      rw (drop-cons (take n code) i 0 (omega arith), get_or-take n code i 0 h, eq-eqb (get_or code i 0) 0 e)
-
-  pub zero_later : i < n → (get_or code i 0 ≡ 0 → ⊥) → any_zero (drop i (take n code)) ≡ any_zero (drop (i + 1) (take n code))
-  zero_later h e =
-      let l = length-take-le n code room in
-      rw (drop-cons (take n code) i 0 (omega arith), get_or-take n code i 0 h, ne_eqb (get_or code i 0) 0 e, add-one)
-
-  pub zero_nowhere : n ≤ i → any_zero (drop i (take n code)) ≡ false
-  zero_nowhere h =
-      let l = length-take-le n code room in
-      rw (drop_of_length-le (take n code) {i = i} (omega arith))

@@ -1,13 +1,13 @@
 -- The next token of a text from a position on: a sign, a name or none.
-use mathlib.Core.Path.{◌≡◌, sym, ap, ◌∙◌}
+use mathlib.Core.Path.{◌≡◌, refl, sym, ap, ◌∙◌}
 use mathlib.Core.Logic.{⊎_elim}
 use mathlib.Core.Bool.{true, false}
 use mathlib.Core.Option.{none, some}
 use mathlib.Core.List.{List, [], ◌∷◌}
-use Prim.Native.Nat.{ℕ, zero, suc, ◌+◌, ◌*◌, ◌-◌, ◌≤◌, ◌<◌}
+use Prim.Native.Nat.{ℕ, zero, suc, ◌+◌, ◌≤◌, ◌<◌}
 use native.Mathlib.Nat.{add-zero}
 use native.Mathlib.Omega.{arith}
-use lib.ListN.{length, drop, get_or, length-drop}
+use lib.ListN.{length, drop, get_or, length-drop, get_or-eq_default}
 use lib.Seq.{drop-drop, get_or-drop}
 use lib.Dec.{eqb}
 use borrow.Author.Tests.{eq-eqb, ne_eqb}
@@ -68,15 +68,18 @@ module _ (text : List ℕ) (at i : ℕ) (skipped : i ≡ at + gap_run (drop at t
   pub skip_fits : at ≤ length text → i ≤ length text
   skip_fits h = omega (arith, gap_fits (drop at text), length-drop at text)
 
-  pub after_found : (b r : ℕ) → class_of b ≡ sign → (r ≡ get_or text i 0) × (r ≤ 255 * (length text - i)) → r ≡ b → MarkTo b text at (i + 1)
-  after_found b r k e h = record {
-    is = ap (after_mark b) (sym same_tokens) ∙ mark_found b (drop i text) k (first_byte ∙ sym e.0 ∙ h) (omega (arith, length-drop i text, sign_some b k)) ∙ rw (drop-drop 1 i text);
+  pub after_found : (b : ℕ) → class_of b ≡ sign → i < length text → get_or text i 0 ≡ b → MarkTo b text at (i + 1)
+  after_found b k l h = record {
+    is = ap (after_mark b) (sym same_tokens) ∙ mark_found b (drop i text) k (first_byte ∙ h) (omega (arith, length-drop i text)) ∙ rw (drop-drop 1 i text);
     on = omega arith;
-    within = omega (arith, sign_some b k);
+    within = omega arith;
   }
 
-  pub after_missing : (b r : ℕ) → r ≡ get_or text i 0 → (r ≡ b → ⊥) → after_mark b (tokens_from text at) ≡ none
-  after_missing b r e n = ap (after_mark b) (sym same_tokens) ∙ mark_missing b (drop i text) gap_passed (λ h. n (e ∙ sym first_byte ∙ h))
+  pub after_missing : (b : ℕ) → (get_or text i 0 ≡ b → ⊥) → after_mark b (tokens_from text at) ≡ none
+  after_missing b n = ap (after_mark b) (sym same_tokens) ∙ mark_missing b (drop i text) gap_passed (λ h. n (sym first_byte ∙ h))
+
+  pub after_end : (b : ℕ) → class_of b ≡ sign → length text ≤ i → after_mark b (tokens_from text at) ≡ none
+  after_end b k l = after_missing b (λ h. omega (arith, get_or-eq_default text 0 l, sign_some b k, h))
 
   pub first_found : (end : ℕ) → at ≤ length text → end ≡ i + name_run (drop i text) → i < end → NameTo text at i end
   first_found end w e h = record {
@@ -98,3 +101,7 @@ module _ (text : List ℕ) (at i : ℕ) (skipped : i ≡ at + gap_run (drop at t
   starts_sign b e h =
       let g : in_name (class_of (get_or (drop i text) 0 0)) ≡ false = rw (first_byte, ← e) h in
       ap (λ (c : ℕ). eqb c opening) (e ∙ sym first_byte) ∙ sym (sign_starts_atom (drop i text) gap_passed g) ∙ ap starts_atom same_tokens
+
+  pub starts_end : length text ≤ i → false ≡ starts_atom (tokens_from text at)
+  unfolding class_of
+  starts_end l = starts_sign 0 (sym (get_or-eq_default text 0 l)) refl

@@ -7,7 +7,7 @@ use Prim.Native.Nat.{ℕ, suc, ◌+◌, ◌≤◌, ◌<◌}
 use native.Mathlib.Omega.{arith}
 use lib.ListN.{length, drop, drop_of_length-le, length-drop, length-append}
 use lib.Seq.{sets-eq}
-use lib.Dec.{ltb}
+use lib.Dec.{eqb, ltb}
 use borrow.Author.Tests.{ne_eqb, lt-ltb, le-ltb}
 use Rattle.term.specs.Term.{Term, var, lam, app, size, is_closed_under}
 use Rattle.term.specs.Code.{code_of}
@@ -23,7 +23,7 @@ use Rattle.reader.specs.Grammar.{variable_word}
 use Rattle.reader.specs.Answering.{any_zero, Codes, answer_for}
 use Rattle.reader.specs.Steps.{CodedTo}
 use Rattle.reader.specs.Numbers.{code_under, Begins, NoPhrase, PhraseTo}
-use Rattle.reader.proofs.Nameless.{zero_append}
+use Rattle.std.proofs.lemmas.List.Folds.{list_any-append}
 use Rattle.reader.proofs.Answering.{last_two}
 
 -- The code of a term under binders has a word for each node; a 0 stands there exactly where the term is not closed, and else it is the term's code.
@@ -46,7 +46,7 @@ zero_open (var k) d = by_test (ltb k d)
     by_test false = refl
 zero_open (lam b) d = zero_open b (suc d)
 zero_open (app f a) d =
-    zero_append (code_under f d) (code_under a d) ∙ ap₂ (λ s t. s || t) (zero_open f d) (zero_open a d) ∙ not_both (is_closed_under d f) (is_closed_under d a)
+    list_any-append (λ w. eqb w 0) (code_under f d) (code_under a d) ∙ ap₂ (λ s t. s || t) (zero_open f d) (zero_open a d) ∙ not_both (is_closed_under d f) (is_closed_under d a)
 
 closed_code : (t : Term) (d : ℕ) → is_closed_under d t ≡ true → code_under t d ≡ code_of t
 unfolding code_under code_of

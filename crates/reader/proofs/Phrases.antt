@@ -3,10 +3,10 @@ use mathlib.Core.Path.{◌≡◌, refl, sym, ap, ap₂, ◌∙◌}
 use mathlib.Core.Bool.{true, false, false≢true}
 use mathlib.Core.Option.{none-ne-some}
 use mathlib.Core.List.{List, [], ◌∷◌, ◌++◌, append_assoc}
-use Prim.Native.Nat.{ℕ, suc, ◌+◌, ◌-◌, ◌≤◌, ◌<◌}
+use Prim.Native.Nat.{ℕ, suc, ◌+◌, ◌≤◌, ◌<◌}
 use native.Mathlib.Numerals.{add-one}
 use native.Mathlib.Omega.{arith}
-use lib.ListN.{length, get_or, set, take, drop, length-append}
+use lib.ListN.{length, get_or, set, drop, length-append}
 use lib.Seq.{drop-cons, get_or-drop}
 use borrow.Author.Tests.{eq-eqb}
 use Rattle.decimal.specs.Decimal.{decimal, value_after}
@@ -18,9 +18,9 @@ use Rattle.text.specs.NumberGrammar.{at_sign, number_text}
 use Rattle.text.specs.NumberParse.{after_byte, digits_first, is_number}
 use Rattle.text.proofs.NumberParse.{digits_are, digits_then, digits_end, digits_found, space_ends, number_test, number_only, no_sign, one_reading}
 use Rattle.reader.specs.Numbers.{word_under, code_under, Begins, NoPhrase, PhraseTo, PhraseRead}
-use Rattle.reader.specs.declared.grammar.Got.{Got}
-use Rattle.reader.specs.declared.grammar.Got.TheVariants.{Read, Not}
-use Rattle.reader.proofs.Digits.{digits_within, digits_taken, digits_left}
+use Rattle.std.specs.Prelude.{Some, None}
+use Rattle.reader.specs.Types.{Got}
+use Rattle.reader.proofs.Digits.{digits_within, digits_left}
 
 -- A term's text by its first byte: after `\` a body,
 no_number : (k b : ℕ) (s left : List ℕ) → 57 < b → decimal k ++ left ≡ b ∷ s → ⊥
@@ -67,29 +67,12 @@ from_byte : (text : List ℕ) (at b : ℕ) → at < length text → get_or text 
 from_byte text at b h e = drop-cons text at 0 h ∙ ap₂ (λ c k. c ∷ drop k text) e (sym (add-one at))
 
 module _ (text : List ℕ) (at depth : ℕ) (out : List ℕ) (node : ℕ) where
-  -- One space and a phrase.
-  module _ (h : at < length text) (e : get_or text at 0 ≡ space) where
-    pub spaced_read : (r : Got) (out' : List ℕ) → PhraseRead [] text (at + 1) depth out node r out' → PhraseRead (space ∷ []) text at depth out node r out'
-    spaced_read (Read p m) out' x = record {
-      value = x.value;
-      begins = record { spells = ap (λ s. space ∷ s) x.begins.spells ∙ sym (from_byte text at space h e); ends = x.begins.ends };
-      on = omega (arith, x.on);
-      within = x.within;
-      room = omega (arith, x.room);
-      next = x.next;
-      wrote = x.wrote;
-    }
-    spaced_read Not out' x = λ t left b. x t left record { spells = ap (drop 1) (b.spells ∙ from_byte text at space h e); ends = b.ends }
-
-  pub spaced_none : (get_or text at 0 ≡ space → ⊥) → NoPhrase (space ∷ []) text at
-  spaced_none n t left b = n (sym (first_byte text at) ∙ sym (ap (λ s. get_or s 0 0) b.spells))
-
   -- An abstraction.
   module _ (h : at < length text) (e : get_or text at 0 ≡ lambda) where
     pub abstraction_read : (r : Got) (out' : List ℕ) → PhraseRead (space ∷ []) text (at + 1) (depth + 1) (set out node 1) (node + 1) r out'
         → PhraseRead [] text at depth out node r out'
     unfolding number_text code_under
-    abstraction_read (Read p m) out' x = record {
+    abstraction_read (Some (p, m)) out' x = record {
       value = lam x.value;
       begins = record { spells = ap (λ s. lambda ∷ s) x.begins.spells ∙ sym (from_byte text at lambda h e); ends = x.begins.ends };
       on = omega (arith, x.on);
@@ -98,7 +81,7 @@ module _ (text : List ℕ) (at depth : ℕ) (out : List ℕ) (node : ℕ) where
       next = rw (← add-one depth) (omega (arith, x.next));
       wrote = rw (← add-one depth, ← add-one node) x.wrote;
     }
-    abstraction_read Not out' x = λ t left b.
+    abstraction_read None out' x = λ t left b.
         let i = inner_body t (drop (at + 1) text) left record { spells = b.spells ∙ from_byte text at lambda h e; ends = b.ends } in
         x i.0 left i.1
 
@@ -115,7 +98,7 @@ module _ (text : List ℕ) (at depth : ℕ) (out : List ℕ) (node : ℕ) where
     module _ (p m : ℕ) (out₁ : List ℕ) (f : PhraseTo (space ∷ []) text (at + 1) depth (set out node 2) (node + 1) p m out₁) where
       pub application_read : (r : Got) (out' : List ℕ) → PhraseRead (space ∷ []) text p depth out₁ m r out' → PhraseRead [] text at depth out node r out'
       unfolding number_text code_under
-      application_read (Read q k) out' a = record {
+      application_read (Some (q, k)) out' a = record {
         value = app f.value a.value;
         begins = record {
           spells = ap (λ s. at_sign ∷ space ∷ s) (append_assoc (number_text f.value) (space ∷ number_text a.value) (drop q text) ∙ ap (λ s. number_text f.value ++ s) a.begins.spells)
@@ -129,7 +112,7 @@ module _ (text : List ℕ) (at depth : ℕ) (out : List ℕ) (node : ℕ) where
         wrote = run_on (set out node 2) out₁ out' (suc node) m (code_under f.value depth) (code_under a.value depth)
             (rw (← add-one node) f.wrote) (omega (arith, f.next)) a.wrote;
       }
-      application_read Not out' a = λ t left b.
+      application_read None out' a = λ t left b.
           let s = sides t left b in
           let after = space ∷ (number_text s.argument ++ left) in
           let same = one_reading s.function f.value after (drop p text) (space_ends (number_text s.argument ++ left)) f.begins.ends (ap (drop 1) (s.spells ∙ sym f.begins.spells)) in
@@ -140,12 +123,11 @@ module _ (text : List ℕ) (at depth : ℕ) (out : List ℕ) (node : ℕ) where
     abbrev digits : List ℕ
     digits = digits_first (drop at text)
 
-    pub number_read : is_number (take (end - at) (drop at text)) ≡ true → (word : ℕ) → word ≡ word_under depth (value_after 0 (take (end - at) (drop at text)))
+    pub number_read : is_number digits ≡ true → (word : ℕ) → word ≡ word_under depth (value_after 0 digits)
         → PhraseTo [] text at depth out node end (node + 1) (set out node word)
     unfolding number_text code_under
     number_read n word w =
-        let taken = digits_taken text at end within e in
-        let is = number_only digits (digits_are (drop at text)) (ap is_number (sym taken) ∙ n) in
+        let is = number_only digits (digits_are (drop at text)) n in
         record {
           value = var (value_after 0 digits);
           begins = record {
@@ -156,13 +138,13 @@ module _ (text : List ℕ) (at depth : ℕ) (out : List ℕ) (node : ℕ) where
           within = digits_within text at end within e;
           room = omega (arith, e, is.some_digit);
           next = refl;
-          wrote = ap (λ x. set out node x) (w ∙ ap (λ d. word_under depth (value_after 0 d)) taken);
+          wrote = ap (λ x. set out node x) w;
         }
 
-    pub number_none : is_number (take (end - at) (drop at text)) ≡ false → (get_or text at 0 ≡ lambda → ⊥) → (get_or text at 0 ≡ at_sign → ⊥)
+    pub number_none : is_number digits ≡ false → (get_or text at 0 ≡ lambda → ⊥) → (get_or text at 0 ≡ at_sign → ⊥)
         → NoPhrase [] text at
     number_none n l a t left b =
         let i = only_number t (drop at text) left b (λ z. l (sym (first_byte text at) ∙ z)) (λ z. a (sym (first_byte text at) ∙ z)) in
         let d = decimal_is i.0 in
         let found : digits ≡ decimal i.0 = ap digits_first (sym i.1) ∙ digits_found (decimal i.0) left d.digits b.ends in
-        false≢true (sym n ∙ ap is_number (digits_taken text at end within e ∙ found) ∙ number_test (decimal i.0) i.0 d)
+        false≢true (sym n ∙ ap is_number found ∙ number_test (decimal i.0) i.0 d)

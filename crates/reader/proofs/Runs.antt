@@ -2,11 +2,10 @@
 use mathlib.Core.Path.{◌≡◌, refl, ap}
 use mathlib.Core.Bool.{Bool, true, false, cond}
 use mathlib.Core.List.{List, [], ◌∷◌}
-use Prim.Native.Nat.{ℕ, suc, ◌+◌, ◌≤◌, ◌<◌}
-use native.Mathlib.Numerals.{add-one}
+use Prim.Native.Nat.{ℕ, suc, ◌+◌, ◌≤◌}
 use native.Mathlib.Omega.{arith}
-use lib.ListN.{length, get_or, drop, drop_of_length-le}
-use lib.Seq.{drop-cons}
+use lib.ListN.{length, drop}
+use Rattle.std.specs.List.{prefix_len}
 use Rattle.text.specs.Bytes.{Class, class_of}
 use Rattle.reader.specs.Scanning.{run_of}
 
@@ -31,6 +30,11 @@ module _ (kind : Class → Bool) where
   unfolding run_of
   run_none b s h = rw h
 
+  pub run_prefix : (s : List ℕ) → prefix_len (λ b. kind (class_of b)) s ≡ run s
+  unfolding run_of
+  run_prefix [] = refl
+  run_prefix (b ∷ s) = ap (λ n. cond (kind (class_of b)) n 0) (let e : ◌≡◌ {A = ℕ} (1 + prefix_len (λ c. kind (class_of c)) s) (suc (run s)) = omega (arith, run_prefix s) in e)
+
   pub run_done : (s : List ℕ) → run (drop (run s) s) ≡ 0
   unfolding run_of
   run_done [] = refl
@@ -39,16 +43,3 @@ module _ (kind : Class → Bool) where
       by_test : (t : Bool) → kind (class_of b) ≡ t → run (drop (run s) s) ≡ 0 → run (drop (run (b ∷ s)) (b ∷ s)) ≡ 0
       by_test true e ih = rw (run_first b s e) ih
       by_test false e ih = rw (run_none b s e) (run_none b s e)
-
-  pub run_past : (s : List ℕ) (i : ℕ) → length s ≤ i → run (drop i s) ≡ 0
-  unfolding run_of
-  run_past s i h = ap run (drop_of_length-le s h)
-
-  module _ (s : List ℕ) (i : ℕ) (h : i < length s) where
-    pub run_more : kind (class_of (get_or s i 0)) ≡ true → i + 1 + run (drop (i + 1) s) ≡ i + run (drop i s)
-    run_more e =
-        let next : run (drop i s) ≡ suc (run (drop (i + 1) s)) = rw (drop-cons s i 0, add-one) (run_first (get_or s i 0) (drop (suc i) s) e) in
-        omega arith
-
-    pub run_stops : kind (class_of (get_or s i 0)) ≡ false → run (drop i s) ≡ 0
-    run_stops e = rw (drop-cons s i 0) (run_none (get_or s i 0) (drop (suc i) s) e)

@@ -3,9 +3,9 @@ use mathlib.Core.Path.{◌≡◌, refl, sym, ap, ◌∙◌}
 use mathlib.Core.Logic.{◌⊎◌, inl, inr}
 use mathlib.Core.Bool.{Bool, true, false, cond}
 use mathlib.Core.List.{List, [], ◌∷◌, ◌++◌}
-use Prim.Native.Nat.{ℕ, suc, ◌-◌, ◌≤◌}
+use Prim.Native.Nat.{ℕ, suc, ◌≤◌}
 use native.Mathlib.Omega.{arith}
-use lib.ListN.{length, take, drop, take-append-drop, length-take, length-drop}
+use lib.ListN.{length, take, drop, take-append-drop, length-take}
 use Rattle.text.specs.Bytes.{Class, letter, digit, blank, sign, foreign, class_of, in_name}
 use Rattle.text.specs.Tokens.{Name, name, Piece, put_byte, pieces, tokens_of, tokens, AllInName}
 use Rattle.reader.specs.Scanning.{in_gap, run_of, name_run, gap_run, name_at, names_at}
@@ -18,9 +18,6 @@ gap_fits s = run_fits in_gap s
 
 pub name_fits : (s : List ℕ) → name_run s ≤ length s
 name_fits s = run_fits in_name s
-
-pub name_room : (s : List ℕ) (i : ℕ) → name_run (drop i s) ≤ length s - i
-name_room s i = rw (length-drop) at (name_fits (drop i s))
 
 -- A gap has no tokens, and none follows it.
 tokens_put_gap : (c : Class) (b : ℕ) (ps : List Piece) → in_gap c ≡ true → tokens_of (put_byte c b ps) ≡ tokens_of ps

@@ -1,5 +1,5 @@
 -- What the functions that read a text by the grammar answer: the phrase that stands at a place and its code, or that there is none.
-use Rattle.std.specs.Prelude.{◌≡◌, List, [], ◌∷◌, ◌++◌, ℕ, ◌+◌, ◌*◌, ◌-◌, ◌≤◌, length, take, replicate}
+use Rattle.std.specs.Prelude.{◌≡◌, List, [], ◌∷◌, ◌++◌, ℕ, ◌+◌, ◌*◌, ◌-◌, ◌≤◌, length, take, replicate, Some, None}
 use Rattle.std.proofs.Math.Option.{Option, none, some}
 use Rattle.std.proofs.lemmas.List.Edits.{sets}
 use Rattle.term.specs.Choice.{◌>>=◌}
@@ -12,8 +12,7 @@ use Rattle.text.specs.Binding.{index_of}
 use Rattle.text.specs.Reading.{most_bytes}
 use Rattle.reader.specs.Scanning.{names_at}
 use Rattle.reader.specs.Token.{tokens_from}
-use Rattle.reader.specs.declared.grammar.Got.{Got}
-use Rattle.reader.specs.declared.grammar.Got.TheVariants.{Read, Not}
+use Rattle.reader.specs.Types.{Got}
 
 -- Atoms, and an atom, that the tokens begin with, as deep as they need, which is by their ranks (`phrase_from`, text specs/Parse.antt).
 unfoldable pub atoms_from : List Token → Option (Parsed Atoms Token)
@@ -87,8 +86,8 @@ pub record ReadTo {A : Type 0} (from : List Token → Option (Parsed A Token)) (
   pub kept : take w.depth scope' ≡ take w.depth w.scope
 
 abbrev pub CodeAnswer : {A : Type 0} → (List Token → Option (Parsed A Token)) → (A → List Name → List ℕ) → Cursor → Got → List ℕ → List ℕ → Type 0
-CodeAnswer from code w (Read p m) scope' out' = ReadTo from code w p m 1 scope' out'
-CodeAnswer from code w Not scope' out' = from (tokens_from w.text w.at) ≡ none
+CodeAnswer from code w (Some (p, m)) scope' out' = ReadTo from code w p m 1 scope' out'
+CodeAnswer from code w None scope' out' = from (tokens_from w.text w.at) ≡ none
 
 -- What these functions promise of their answer r and of what they leave at exit, from what they were lent at entry: text, scope and slice, with a position in each.
 abbrev pub ReadPromise : Type 1

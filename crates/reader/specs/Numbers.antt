@@ -1,5 +1,5 @@
 -- What the functions that read the number dialect answer: the phrase that stands at a place and its code, or that there is none.
-use Rattle.std.specs.Prelude.{◌≡◌, cond, List, [], ◌∷◌, ◌++◌, ℕ, suc, ◌+◌, ◌-◌, ◌≤◌, ◌<◌, length, get_or, drop, ltb}
+use Rattle.std.specs.Prelude.{◌≡◌, cond, List, [], ◌∷◌, ◌++◌, ℕ, suc, ◌+◌, ◌-◌, ◌≤◌, ◌<◌, length, get_or, drop, ltb, Some, None}
 use Rattle.std.proofs.Math.Option.{none, some}
 use Rattle.std.proofs.lemmas.List.Edits.{sets}
 use Rattle.term.specs.Term.{Term, var, lam, app}
@@ -8,8 +8,7 @@ use Rattle.text.specs.Reading.{most_bytes}
 use Rattle.text.specs.NumberGrammar.{at_sign, number_text}
 use Rattle.text.specs.NumberParse.{digits_first}
 use Rattle.reader.specs.Grammar.{variable_word}
-use Rattle.reader.specs.declared.grammar.Got.{Got}
-use Rattle.reader.specs.declared.grammar.Got.TheVariants.{Read, Not}
+use Rattle.reader.specs.Types.{Got}
 
 -- The word of a number under d binders: 3 plus the number, and 0 where it reaches past the outermost, so that it has no binder.
 abbrev pub word_under : ℕ → ℕ → ℕ
@@ -49,8 +48,8 @@ pub record PhraseTo (before text : List ℕ) (at depth : ℕ) (out : List ℕ) (
 
 -- What the functions that read a phrase promise of their answer, and of what they leave at exit.
 abbrev pub PhraseRead : List ℕ → List ℕ → ℕ → ℕ → List ℕ → ℕ → Got → List ℕ → Type 0
-PhraseRead before text at depth out node (Read p m) out' = PhraseTo before text at depth out node p m out'
-PhraseRead before text at depth out node Not out' = NoPhrase before text at
+PhraseRead before text at depth out node (Some (p, m)) out' = PhraseTo before text at depth out node p m out'
+PhraseRead before text at depth out node None out' = NoPhrase before text at
 
 -- `number` promises the same where no `\` and no `@` begins the bytes.
 abbrev pub NumberRead : List ℕ → ℕ → ℕ → List ℕ → ℕ → Got → List ℕ → Type 0

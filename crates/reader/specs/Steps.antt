@@ -1,5 +1,6 @@
 -- What the first steps of a reading answer: numbers 1 to 3, and the code of what a text spells.
 use Rattle.std.specs.Prelude.{◌≡◌, List, [], ℕ}
+use Rattle.std.specs.Prelude as Std
 use Rattle.std.proofs.Math.Option.{Option, none, some, get_or}
 use Rattle.term.specs.Choice.{first}
 use Rattle.term.specs.Term.{Term}
@@ -11,8 +12,6 @@ use Rattle.text.specs.Reading.{spelling_tests}
 use Rattle.text.specs.NumberParse.{parse_numbers}
 use Rattle.text.specs.NumberReading.{closed_only}
 use Rattle.reader.specs.Answering.{InCode}
-use Rattle.reader.specs.declared.Coded.{Coded}
-use Rattle.reader.specs.declared.Coded.TheVariants.{Words, NoTerm}
 
 -- the number of the three that look at bytes and names alone, and 0 for none
 unfoldable pub spelling_number : List ℕ → ℕ
@@ -24,13 +23,13 @@ pub record CodedTo {A : Type 0} (found : Option A) (meaning : A → Option Term)
   pub is : found ≡ some value
   pub in_code : InCode code n (meaning value)
 
-abbrev pub CodedIs : {A : Type 0} → Option A → (A → Option Term) → Coded → List ℕ → Type 0
-CodedIs found meaning (Words n) code = CodedTo found meaning n code
-CodedIs found meaning NoTerm code = found ≡ none
+abbrev pub CodedIs : {A : Type 0} → Option A → (A → Option Term) → Std.Option ℕ → List ℕ → Type 0
+CodedIs found meaning (Std.Some n) code = CodedTo found meaning n code
+CodedIs found meaning Std.None code = found ≡ none
 
 -- What a text with names spells, and one in numbers, by what is parsed there.
-abbrev pub NamesCoded : List ℕ → Coded → List ℕ → Type 0
+abbrev pub NamesCoded : List ℕ → Std.Option ℕ → List ℕ → Type 0
 NamesCoded text r code = CodedIs (parse (tokens text)) (λ p. nameless (phrase_tree p) []) r code
 
-abbrev pub NumbersCoded : List ℕ → Coded → List ℕ → Type 0
+abbrev pub NumbersCoded : List ℕ → Std.Option ℕ → List ℕ → Type 0
 NumbersCoded text r code = CodedIs (parse_numbers text) closed_only r code

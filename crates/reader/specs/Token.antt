@@ -1,14 +1,10 @@
 -- The next token of a text, from a position on: what the functions that look for it answer.
-use Rattle.std.specs.Prelude.{◌≡◌, List, ℕ, ◌≤◌, ◌<◌, length, drop}
+use Rattle.std.specs.Prelude.{◌≡◌, List, ℕ, ◌≤◌, ◌<◌, length, drop, Option, Some, None}
 use Rattle.std.proofs.Math.Option.{none, some}
 use Rattle.text.specs.Tokens.{Token, tokens}
 use Rattle.text.specs.Parsed.{parsed}
 use Rattle.text.specs.Parse.{after_mark, name_first}
 use Rattle.reader.specs.Scanning.{name_at}
-use Rattle.reader.specs.declared.token.After.{After}
-use Rattle.reader.specs.declared.token.After.TheVariants.{Mark, NoMark}
-use Rattle.reader.specs.declared.token.First.{First}
-use Rattle.reader.specs.declared.token.First.TheVariants.{Name as IsName, NoName}
 
 -- the tokens from a position on
 abbrev pub tokens_from : List ℕ → ℕ → List Token
@@ -20,9 +16,9 @@ pub record MarkTo (b : ℕ) (text : List ℕ) (at p : ℕ) : Type 0 where
   pub on : at < p
   pub within : p ≤ length text
 
-abbrev pub AfterIs : ℕ → List ℕ → ℕ → After → Type 0
-AfterIs b text at (Mark p) = MarkTo b text at p
-AfterIs b text at NoMark = after_mark b (tokens_from text at) ≡ none
+abbrev pub AfterIs : ℕ → List ℕ → ℕ → Option ℕ → Type 0
+AfterIs b text at (Some p) = MarkTo b text at p
+AfterIs b text at None = after_mark b (tokens_from text at) ≡ none
 
 pub record NameTo (text : List ℕ) (at x p : ℕ) : Type 0 where
   pub is : name_first (tokens_from text at) ≡ some (parsed (name_at text x) (tokens_from text p))
@@ -30,6 +26,6 @@ pub record NameTo (text : List ℕ) (at x p : ℕ) : Type 0 where
   pub within : p ≤ length text
   pub stands : x ≤ length text
 
-abbrev pub FirstIs : List ℕ → ℕ → First → Type 0
-FirstIs text at (IsName x p) = NameTo text at x p
-FirstIs text at NoName = name_first (tokens_from text at) ≡ none
+abbrev pub FirstIs : List ℕ → ℕ → Option (ℕ × ℕ) → Type 0
+FirstIs text at (Some (x, p)) = NameTo text at x p
+FirstIs text at None = name_first (tokens_from text at) ≡ none

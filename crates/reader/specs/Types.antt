@@ -1,11 +1,15 @@
 -- The declared types of the reader as the definitions' own.
-use Rattle.std.specs.Prelude.{Bool, List, ℕ}
+use Rattle.std.specs.Prelude.{List, ℕ, Option, Result, Ok, Err}
+use Rattle.term.specs.Refusal.{refusal_number}
+use Rattle.term.specs.declared.refusal.Refusal.{Refusal}
 use Rattle.text.specs.Bytes
 use Rattle.text.specs.Reading.{Read}
 use Rattle.reader.specs.declared.bytes.Class.{Class}
-use Rattle.reader.specs.declared.bytes.Classes.{Classes}
 use Rattle.reader.specs.declared.bytes.Class.TheVariants.{Letter, Digit, Blank, Sign, Foreign}
-use Rattle.reader.specs.declared.Reading.{Reading}
+
+-- The position after what was read, and the word after its code.
+abbrev pub Got : Type 0
+Got = Option (ℕ × ℕ)
 
 abbrev pub class_meant : Class → Bytes.Class
 class_meant Letter = Bytes.letter
@@ -14,17 +18,12 @@ class_meant Blank = Bytes.blank
 class_meant Sign = Bytes.sign
 class_meant Foreign = Bytes.foreign
 
--- whether a class is one of some
-abbrev pub is_one_of : Classes → Bytes.Class → Bool
-is_one_of cs Bytes.letter = cs.letter
-is_one_of cs Bytes.digit = cs.digit
-is_one_of cs Bytes.blank = cs.blank
-is_one_of cs Bytes.sign = cs.sign
-is_one_of cs Bytes.foreign = cs.foreign
-
 -- The declared answer, with the table slice at exit, as the definition's.
-abbrev pub read_meant : Reading → List ℕ → Read
-read_meant r table = record { n = r.n; refusal = r.refusal; table = table }
+abbrev pub read_meant : Result ℕ Refusal → List ℕ → Read
+read_meant (Ok n) table = record { n = n; refusal = 0; table = table }
+read_meant (Err r) table = record { n = 0; refusal = refusal_number r; table = table }
 
-abbrev pub refused_reading : ℕ → Reading
-refused_reading k = record { n = 0; refusal = k }
+-- the number of a refusal, and 0 for none
+abbrev pub number_meant : Result (Unit {0}) Refusal → ℕ
+number_meant (Ok u) = 0
+number_meant (Err r) = refusal_number r

@@ -1,7 +1,8 @@
-// Classes of bytes, and the byte at a position.
-ghost use Rattle.std.specs.Prelude.{◌≡◌, ◌≤◌, ◌*◌, ◌-◌, length, get_or};
-ghost use Rattle.text.specs.Bytes.{class_of};
-ghost use Rattle.reader.specs.Types.{class_meant, is_one_of};
+// Classes of bytes.
+ghost use Rattle.std.specs.Prelude.{◌≡◌};
+ghost use Rattle.text.specs.Bytes.{class_of, in_name, is_digit, is_foreign};
+ghost use Rattle.reader.specs.Types.{class_meant};
+ghost use Rattle.reader.specs.Scanning.{in_gap};
 
 #[derive(Clone, Copy)]
 enum Class {
@@ -12,6 +13,7 @@ enum Class {
     Foreign,
 }
 
+#[tactic(auto, unfolding(text::specs::Bytes::class_of))]
 fn class_of(b: u8) -> Class
     ensures { class_meant result ≡ class_of b }
 {
@@ -24,67 +26,27 @@ fn class_of(b: u8) -> Class
     }
 }
 
-// Some of the five classes.
-#[derive(Clone, Copy)]
-pub(crate) struct Classes {
-    letter: bool,
-    digit: bool,
-    blank: bool,
-    sign: bool,
-    foreign: bool,
+pub(crate) fn in_name(b: u8) -> bool
+    ensures { result ≡ in_name (class_of b) }
+{
+    matches!(class_of(b), Class::Letter | Class::Digit)
 }
 
-// Of the bytes of a name.
-pub(crate) const IN_NAME: Classes = Classes {
-    letter: true,
-    digit: true,
-    blank: false,
-    sign: false,
-    foreign: false,
-};
-
-// Of the bytes that are neither in a name nor a sign.
-pub(crate) const IN_GAP: Classes = Classes {
-    letter: false,
-    digit: false,
-    blank: true,
-    sign: false,
-    foreign: true,
-};
-
-pub(crate) const DIGIT: Classes = Classes {
-    letter: false,
-    digit: true,
-    blank: false,
-    sign: false,
-    foreign: false,
-};
-
-// Of the bytes that a text may have.
-pub(crate) const NOT_FOREIGN: Classes = Classes {
-    letter: true,
-    digit: true,
-    blank: true,
-    sign: true,
-    foreign: false,
-};
-
-// Whether a byte's class is one of these.
-pub(crate) fn is_one_of(b: u8, classes: Classes) -> bool
-    ensures { result ≡ is_one_of classes (class_of b) }
+// Neither in a name nor a sign.
+pub(crate) fn in_gap(b: u8) -> bool
+    ensures { result ≡ in_gap (class_of b) }
 {
-    match class_of(b) {
-        Class::Letter => classes.letter,
-        Class::Digit => classes.digit,
-        Class::Blank => classes.blank,
-        Class::Sign => classes.sign,
-        Class::Foreign => classes.foreign,
-    }
+    matches!(class_of(b), Class::Blank | Class::Foreign)
 }
 
-// The byte at a position, and 0, which is foreign, past the end.
-pub(crate) fn byte(text: &[u8], at: usize) -> u8
-    ensures { (result ≡ get_or text.now at 0) × (result ≤ 255 * (length text.now - at)) }
+pub(crate) fn is_digit(b: u8) -> bool
+    ensures { result ≡ is_digit (class_of b) }
 {
-    if at < text.len() { text[at] } else { 0 }
+    matches!(class_of(b), Class::Digit)
+}
+
+pub(crate) fn is_foreign(b: u8) -> bool
+    ensures { result ≡ is_foreign (class_of b) }
+{
+    matches!(class_of(b), Class::Foreign)
 }

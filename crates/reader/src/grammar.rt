@@ -3,14 +3,15 @@ ghost use Rattle.std.specs.Prelude.{◌+◌, ◌≤◌, length};
 ghost use Rattle.reader.specs.Grammar.{cursor, CodeRoom, TermRead, AbstractionRead, ApplicationRead, AtomRead, BracketsRead, Marked};
 
 use crate::scan::variable_word;
-use crate::token::{After, First, after_mark, name_first, starts_atom};
+use crate::token::{after_mark, name_first, starts_atom};
+
+// Each function takes the text, the scope and the code as parameters, and no struct of them: a lent slice keeps its length in every call, which of a
+// struct's field each contract here would have to say. What they call is kept out of line, so that a level of the stack stays small.
+
+// The words of the code are numbers: 0, 1, 2, or 3 and an index, as the definition `code_of` writes them.
 
 // The position after what was read, and the word after its code.
-#[derive(Clone, Copy)]
-pub(crate) enum Got {
-    Read(usize, usize),
-    Not,
-}
+pub(crate) type Got = Option<(usize, usize)>;
 
 #[cycle(abstraction_application_atom_brackets_term)]
 pub(crate) fn term(
@@ -25,10 +26,9 @@ pub(crate) fn term(
     ensures { TermRead text.now at scope.old depth out.old node result
         scope.new out.new }
 {
-    let first = after_mark(text, at, b'\\');
-    match first {
-        After::Mark(p) => abstraction(text, p, scope, depth, out, node),
-        After::NoMark => application(text, at, scope, depth, out, node),
+    match after_mark(text, at, b'\\') {
+        Some(p) => abstraction(text, p, scope, depth, out, node),
+        None => application(text, at, scope, depth, out, node),
     }
 }
 
@@ -46,25 +46,16 @@ fn abstraction(
     ensures { AbstractionRead text.now at scope.old depth out.old node result
         scope.new out.new }
 {
-    let first = name_first(text, at);
-    match first {
-        First::Name(x, p) => {
-            let dot = after_mark(text, p, b'.');
-            match dot {
-                After::Mark(q) => {
-                    scope[depth] = x as u32;
-                    out[node] = 1;
-                    term(text, q, scope, depth + 1, out, node + 1)
-                }
-                After::NoMark => Got::Not,
-            }
-        }
-        First::NoName => Got::Not,
-    }
+    let (x, p) = name_first(text, at)?;
+    let q = after_mark(text, p, b'.')?;
+    scope[depth] = x as u32;
+    out[node] = 1;
+    term(text, q, scope, depth + 1, out, node + 1)
 }
 
 // The atoms are written one after another, for as long as one begins, and then the marks of their applications in front of them. A loop, and
-// not a call for each atom, so that the stack deepens with brackets and abstractions alone.
+// not a call for each atom, so that the stack deepens with brackets and abstractions alone; and one call of `atom` in the code, not one for the first
+// atom and one for the others, since a second one makes each level of the stack half as large again.
 #[cycle(abstraction_application_atom_brackets_term)]
 fn application(
     text: &[u8],
@@ -82,23 +73,14 @@ fn application(
     let mut m = node;
     let mut k = 0;
     while starts_atom(text, p) {
-        let next = atom(text, p, scope, depth, out, m);
-        match next {
-            Got::Read(q, n) => {
-                p = q;
-                m = n;
-                k += 1;
-            }
-            Got::Not => {
-                return Got::Not;
-            }
-        }
+        (p, m) = atom(text, p, scope, depth, out, m)?;
+        k += 1;
     }
     if k == 0 {
-        return Got::Not;
+        return None;
     }
     marks(out, node, m, k - 1);
-    Got::Read(p, m + (k - 1))
+    Some((p, m + (k - 1)))
 }
 
 #[cycle(abstraction_application_atom_brackets_term)]
@@ -114,21 +96,12 @@ fn atom(
     ensures { AtomRead text.now at scope.old depth out.old node result
         scope.new out.new }
 {
-    let first = name_first(text, at);
-    match first {
-        First::Name(x, p) => {
-            let word = variable_word(text, x, scope, depth);
-            out[node] = word;
-            Got::Read(p, node + 1)
-        }
-        First::NoName => {
-            let opened = after_mark(text, at, b'(');
-            match opened {
-                After::Mark(p) => brackets(text, p, scope, depth, out, node),
-                After::NoMark => Got::Not,
-            }
-        }
-    }
+    let Some((x, p)) = name_first(text, at) else {
+        let inner = after_mark(text, at, b'(')?;
+        return brackets(text, inner, scope, depth, out, node);
+    };
+    out[node] = variable_word(text, x, &scope[..depth]);
+    Some((p, node + 1))
 }
 
 // The term in brackets, after the opening one.
@@ -145,33 +118,17 @@ fn brackets(
     ensures { BracketsRead text.now at scope.old depth out.old node result
         scope.new out.new }
 {
-    let inner = term(text, at, scope, depth, out, node);
-    match inner {
-        Got::Read(p, m) => {
-            let closed = after_mark(text, p, b')');
-            match closed {
-                After::Mark(q) => Got::Read(q, m),
-                After::NoMark => Got::Not,
-            }
-        }
-        Got::Not => Got::Not,
-    }
+    let (p, m) = term(text, at, scope, depth, out, node)?;
+    let end = after_mark(text, p, b')')?;
+    Some((end, m))
 }
 
 // Moves the words from `first` to `end` up by `by`, and puts `by` marks of applications in front of them.
+#[inline(never)]
 fn marks(out: &mut [u32], first: usize, end: usize, by: usize)
     requires { (first ≤ end) × (end + by ≤ length out.old) }
     ensures { Marked first end by out.old out.new }
 {
-    let mut i = end;
-    while first < i {
-        i -= 1;
-        let w = out[i];
-        out[i + by] = w;
-    }
-    let mut k = 0;
-    while k < by {
-        out[first + k] = 2;
-        k += 1;
-    }
+    out.copy_within(first..end, first + by);
+    out[first..first + by].fill(2);
 }

@@ -1,14 +1,13 @@
 // Reading by the grammar of the number dialect: a phrase, and a phrase after its space, which call on each other, into the preorder code of what
 // is read. Document 02, change 7.
-ghost use Rattle.std.specs.Prelude.{◌≡◌, [], ◌∷◌, ◌-◌, ◌≤◌, length, take, drop};
+ghost use Rattle.std.specs.Prelude.{◌≡◌, [], ◌∷◌, ◌-◌, ◌≤◌};
 ghost use Rattle.decimal.specs.Decimal.{value_after};
 ghost use Rattle.text.specs.Bytes.{space};
 ghost use Rattle.text.specs.NumberParse.{is_number};
 ghost use Rattle.reader.specs.Numbers.{word_under, PhraseRoom, PhraseRead, NumberRead};
 
-use crate::bytes::byte;
 use crate::grammar::Got;
-use crate::scan::digits_end;
+use crate::scan::digits_at;
 
 // An abstraction, an application or a number, which its first byte tells.
 #[cycle(phrase_spaced)]
@@ -16,20 +15,18 @@ pub(crate) fn phrase(text: &[u8], at: usize, depth: usize, out: &mut [u32], node
     requires { PhraseRoom text.now at depth out.old node }
     ensures { PhraseRead [] text.now at depth out.old node result out.new }
 {
-    let first = byte(text, at);
-    if first == b'\\' {
-        out[node] = 1;
-        return spaced(text, at + 1, depth + 1, out, node + 1);
+    match text.get(at) {
+        Some(b'\\') => {
+            out[node] = 1;
+            spaced(text, at + 1, depth + 1, out, node + 1)
+        }
+        Some(b'@') => {
+            out[node] = 2;
+            let (p, m) = spaced(text, at + 1, depth, out, node + 1)?;
+            spaced(text, p, depth, out, m)
+        }
+        _ => number(text, at, depth, out, node),
     }
-    if first == b'@' {
-        out[node] = 2;
-        let function = spaced(text, at + 1, depth, out, node + 1);
-        return match function {
-            Got::Read(p, m) => spaced(text, p, depth, out, m),
-            Got::Not => Got::Not,
-        };
-    }
-    number(text, at, depth, out, node)
 }
 
 // One space, and the phrase after it.
@@ -38,11 +35,10 @@ fn spaced(text: &[u8], at: usize, depth: usize, out: &mut [u32], node: usize) ->
     requires { PhraseRoom text.now at depth out.old node }
     ensures { PhraseRead (space ∷ []) text.now at depth out.old node result out.new }
 {
-    if byte(text, at) == b' ' {
-        phrase(text, at + 1, depth, out, node)
-    } else {
-        Got::Not
+    if text.get(at) != Some(&b' ') {
+        return None;
     }
+    phrase(text, at + 1, depth, out, node)
 }
 
 // The digits that stand there, if they are a number.
@@ -50,24 +46,22 @@ fn number(text: &[u8], at: usize, depth: usize, out: &mut [u32], node: usize) ->
     requires { PhraseRoom text.now at depth out.old node }
     ensures { NumberRead text.now at depth out.old node result out.new }
 {
-    let end = digits_end(text, at);
-    if is_number(text, at, end) {
-        out[node] = number_word(text, at, end, depth);
-        Got::Read(end, node + 1)
-    } else {
-        Got::Not
+    let digits = digits_at(text, at);
+    if !is_number(digits) {
+        return None;
     }
+    out[node] = number_word(digits, depth);
+    Some((at + digits.len(), node + 1))
 }
 
-// Whether the bytes from `at` to `end` are one digit, or more of which the first is not 0.
-fn is_number(text: &[u8], at: usize, end: usize) -> bool
-    requires { (at ≤ end) × (end ≤ length text.now) }
-    ensures { result ≡ is_number (take (end - at) (drop at text.now)) }
+// Whether digits are a number: one, or more of which the first is not 0.
+fn is_number(digits: &[u8]) -> bool
+    ensures { result ≡ is_number digits.now }
 {
-    if end - at < 2 {
-        at < end
-    } else {
-        text[at] != b'0'
+    match digits {
+        [] => false,
+        [_] => true,
+        [first, ..] => *first != b'0',
     }
 }
 
@@ -75,27 +69,18 @@ fn is_number(text: &[u8], at: usize, end: usize) -> bool
 fn digit_value(b: u8) -> usize
     ensures { (result ≡ b - 48) × (result ≤ 255) }
 {
-    if b < 48 { 0 } else { (b - 48) as usize }
+    b.saturating_sub(b'0') as usize
 }
 
-// The word of the number from `at` to `end` under so many binders. Its value grows with each digit, so it is read only until it reaches past them: no number
-// is too large.
-fn number_word(text: &[u8], at: usize, end: usize, depth: usize) -> u32
-    requires { (at ≤ end) × (end ≤ length text.now) × (depth ≤ 3000) }
-    ensures { result ≡ word_under depth (value_after 0 (take (end - at) (drop at text.now))) }
+// The word of a number under so many binders, and 0 where it reaches past them, as the definition `word_under` has it: number 14 is put to the words of the whole text. Its value is cut at
+// the binders, so that no number is too large.
+fn number_word(digits: &[u8], depth: usize) -> u32
+    requires { depth ≤ 3000 }
+    ensures { result ≡ word_under depth (value_after 0 digits.now) }
 {
     let mut value = 0;
-    let mut i = at;
-    while i < end {
-        if depth <= value {
-            return 0;
-        }
-        value = 10 * value + digit_value(text[i]);
-        i += 1;
+    for b in digits {
+        value = depth.min(10 * value + digit_value(*b));
     }
-    if depth <= value {
-        0
-    } else {
-        (3 + value) as u32
-    }
+    if value < depth { (3 + value) as u32 } else { 0 }
 }

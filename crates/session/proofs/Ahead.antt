@@ -1,6 +1,7 @@
 -- A look from the state that a session holds: forward, and back again by the steps made, which gives back every word.
 use mathlib.Core.Path.{◌≡◌, refl, sym, ap, ◌∙◌, subst}
 use mathlib.Core.List.{List}
+use Rattle.std.specs.Prelude.{Ok}
 use Prim.Native.Nat.{ℕ}
 use Rattle.term.specs.Table.{table_in}
 use Rattle.machine.specs.Machine.{State}
@@ -15,7 +16,7 @@ use Rattle.calls.specs.Trips.{back_by}
 use Rattle.calls.proofs.Entering.{enters_unrefused}
 use Rattle.calls.proofs.Looks.{look_tells}
 use Rattle.calls.proofs.RoundTrip.{left_enters, round_trip}
-use Rattle.session.specs.Types.{session_meant, outcome_meant, look_meant, lent}
+use Rattle.session.specs.Types.{session_meant, walk_meant, look_meant, lent}
 use Rattle.session.specs.Steps.{TokenAt, Ready}
 use Rattle.session.specs.Passes.{Winds}
 use Rattle.session.specs.Looks.{told_from}
@@ -29,7 +30,7 @@ module _ {w : List ℕ} {n : ℕ} {se : Declared.Session} {ls ts : List ℕ} {s 
   abbrev given : Given
   given = lent w n se ls ts
 
-  came : outcome_meant o ls₁ ts₁ ≡ forward_of given count
+  came : walk_meant o ls₁ ts₁ ≡ forward_of given count
   came = winds_from (by forward count) w n se ls ts h refl o ls₁ ts₁ winds
 
   -- where it came to there is a state again
@@ -43,14 +44,14 @@ module _ {w : List ℕ} {n : ℕ} {se : Declared.Session} {ls ts : List ℕ} {s 
   there_ready = record { state = there; token = token_there }
 
   module _ (a : Came.Outcome) (ls₂ ts₂ : List ℕ) (winds_back : Winds w n o.session ls₁ ts₁ Back o.steps a ls₂ ts₂) where
-    returned : outcome_meant a ls₂ ts₂ ≡ back_by given (forward_of given count)
+    returned : walk_meant a ls₂ ts₂ ≡ back_by given (forward_of given count)
     returned = winds_from (by back o.steps) w n o.session ls₁ ts₁ token_there refl a ls₂ ts₂ winds_back ∙ ap (back_by given) came
 
     -- every word as given
     pub home_again : (ls₂ ≡ ls) × (ts₂ ≡ ts)
     home_again = (ap (λ x. x.log) returned ∙ (round_trip given count).log_is, ap (λ x. x.tape) returned ∙ (round_trip given count).tape_is)
 
-    pub looks_ahead : look_meant (told_from o se.position count) ls₂ ts₂ ≡ look_of given count
+    pub looks_ahead : look_meant (Ok (told_from o se.position count)) ls₂ ts₂ ≡ look_of given count
     looks_ahead =
         (λ i. record {
           steps = (came i).steps;

@@ -20,7 +20,7 @@ use Rattle.session.specs.Steps.{TokenAt, StepIs}
 use Rattle.session.specs.declared.Dir.{Dir}
 use Rattle.session.specs.declared.Session as Declared
 use Rattle.session.specs.declared.rules.Arrival as Arrived
-use Rattle.session.specs.declared.rules.Stepped.TheVariants.{Made}
+use Rattle.std.specs.Prelude.{Ok}
 use Rattle.session.proofs.Slices.{Lies, lies_in}
 
 module _ {w : List ℕ} {n : ℕ} {se : Declared.Session} {ls ts : List ℕ} {s : State} (h : TokenAt w n se ls ts s) where
@@ -51,7 +51,7 @@ pub arrives : {w : List ℕ} {n : ℕ} {se : Declared.Session} {ls ts : List ℕ
     → (l m : ℕ) → l ≡ length (log_words L) → m ≡ length (tape_words t) → l ≤ length ls → m ≤ length ts
     → (k : ℕ) → k ≡ (l - se.log_len) + (se.log_len - l)
     → (ls' ts' : List ℕ) → ls' ≡ slice (length ls) (log_words L) → ts' ≡ slice (length ts) (tape_words t)
-    → StepIs w n se ls ts s (Made (arrival j d l m k)) ls' ts'
+    → StepIs w n se ls ts s (Ok (arrival j d l m k)) ls' ts'
 arrives {w} {n} {se} {ls} {ts} {s} h j d L t e l m l_is m_is l_fits m_fits k k_is ls' ts' log_lies tape_lies =
     let log_in = lies_in (length ls) (log_words L) ls' (omega arith) log_lies in
     let tape_in = lies_in (length ts) (tape_words t) ts' (omega arith) tape_lies in

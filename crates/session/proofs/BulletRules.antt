@@ -1,5 +1,5 @@
 -- Rules 1, 2, 5 and 7 on the slices: a bullet's word, 0, lies above the top before it comes and after it has gone.
-use mathlib.Core.Path.{◌≡◌, refl, sym, ap, ◌∙◌}
+use mathlib.Core.Path.{◌≡◌, sym, ap, ◌∙◌}
 use mathlib.Core.Option.{some}
 use mathlib.Core.List.{List, ◌∷◌}
 use Prim.Native.Nat.{ℕ, suc, ◌+◌, ◌-◌, ◌≤◌, ◌<◌}
@@ -13,30 +13,20 @@ use Rattle.session.specs.Types.{dir_meant}
 use Rattle.session.specs.Steps.{TokenAt, StepIs}
 use Rattle.session.specs.declared.Dir.{Dir}
 use Rattle.session.specs.declared.Session as Declared
-use Rattle.session.specs.declared.rules.Stepped.TheVariants.{Made, TapeFull}
+use Rattle.std.specs.Prelude.{Ok}
 use Rattle.session.proofs.Slices.{zero_above}
 use Rattle.session.proofs.Arrivals.{arrival, arrives}
 
--- a bullet on top is counted
-pub bullet_counted : {w : List ℕ} {n : ℕ} {se : Declared.Session} {ls ts : List ℕ} {s : State} → TokenAt w n se ls ts s → (t : Tape) → s.tape ≡ bullet ∷ t → 1 ≤ se.tape_len
-bullet_counted h t on_top = omega (arith, h.enters.holds.tape_length_is ∙ ap (λ u. length (tape_words u)) on_top)
-
 module _ {w : List ℕ} {n : ℕ} {se : Declared.Session} {ls ts : List ℕ} {s : State} (h : TokenAt w n se ls ts s) (j : ℕ) (d : Dir) where
   module _ (e : step (table_in w n) s ≡ some (state j (dir_meant d) s.log (bullet ∷ s.tape))) where
-    pub bullet_comes : se.tape_len < length ts → StepIs w n se ls ts s (Made (arrival j d se.log_len (se.tape_len + 1) 0)) ls ts
+    pub bullet_comes : se.tape_len < length ts → StepIs w n se ls ts s (Ok (arrival j d se.log_len (se.tape_len + 1) 0)) ls ts
     bullet_comes r =
         let many : se.tape_len ≡ length (tape_words s.tape) = h.enters.holds.tape_length_is in
         arrives h j d s.log (bullet ∷ s.tape) e se.log_len (se.tape_len + 1) h.enters.holds.log_length_is (omega arith) h.enters.holds.log_fits (omega arith)
         0 (omega arith) ls ts h.enters.holds.log_lies (h.enters.holds.tape_lies ∙ sym (zero_above (length ts) (tape_words s.tape) (omega arith)))
 
-    pub bullet_over : length ts ≤ se.tape_len → StepIs w n se ls ts s TapeFull ls ts
-    bullet_over r =
-        let many : se.tape_len ≡ length (tape_words s.tape) = h.enters.holds.tape_length_is in
-        let log_fits : se.log_len ≤ length ls = h.enters.holds.log_fits in
-        (state j (dir_meant d) s.log (bullet ∷ s.tape), e, omega (arith, h.enters.holds.log_length_is), omega arith, refl, refl)
-
   pub bullet_goes : (t : Tape) → s.tape ≡ bullet ∷ t → step (table_in w n) s ≡ some (state j (dir_meant d) s.log t)
-      → StepIs w n se ls ts s (Made (arrival j d se.log_len (se.tape_len - 1) 0)) ls ts
+      → StepIs w n se ls ts s (Ok (arrival j d se.log_len (se.tape_len - 1) 0)) ls ts
   bullet_goes t on_top e =
       let many : se.tape_len ≡ suc (length (tape_words t)) = h.enters.holds.tape_length_is ∙ ap (λ u. length (tape_words u)) on_top in
       let fits : se.tape_len ≤ length ts = h.enters.holds.tape_fits in

@@ -8,7 +8,7 @@ use native.Mathlib.Numerals.{add-one}
 use lib.ListN.{length}
 use Rattle.term.specs.Table.{Table, table_in}
 use Rattle.machine.specs.Entries.{tape_words}
-use Rattle.machine.specs.Machine.{Dir, down, up, State, turned, turn, step}
+use Rattle.machine.specs.Machine.{State, turned, turn, step}
 use Rattle.machine.specs.Carried.{carried}
 use Rattle.machine.specs.Turns.{turn_between}
 use Rattle.machine.proofs.Reverse.{turn_good}
@@ -16,7 +16,6 @@ use Rattle.calls.specs.Session.{Session}
 use Rattle.calls.specs.Stops.{Way, forward, back, Moment, moment, moment_of, backward, leaves_turns, log_size, tape_size, next_by}
 use Rattle.calls.specs.Winding.{carried_by}
 use Rattle.calls.specs.Held.{Holds}
-use Rattle.calls.specs.Visits.{same_dir}
 use Rattle.calls.proofs.Moments.{next_forward, next_back}
 use Rattle.session.specs.Types.{session_meant}
 use Rattle.session.specs.Steps.{TokenAt}
@@ -95,10 +94,6 @@ pub turns_facing : (way : Way) (se : Session) → (facing_session way se).turns 
 turns_facing forward se = refl
 turns_facing back se = refl
 
-pub tape_length_facing : (way : Way) (se : Session) → (facing_session way se).tape_length ≡ se.tape_length
-tape_length_facing forward se = refl
-tape_length_facing back se = refl
-
 -- A step from what is turned about leads, turned again, to the state of the next moment, if there is one;
 pub next_state : (way : Way) (T : Table) (s u : State) (se : Session) (m : Moment) → step T (facing way s) ≡ some u → next_by way T (moment_of se s) ≡ some m → m.state ≡ facing way u
 next_state forward T s u se m e n = some-injective m.state u (sym (next_forward T (moment_of se s) m n).0 ∙ e)
@@ -111,13 +106,6 @@ next_onward T s u se e = rw e (ap (λ p. some (moment u p (se.turns + turn_betwe
 pub next_backward : (T : Table) (s u : State) (se : Session) → step T (turn s) ≡ some u
     → next_by back T (moment_of se s) ≡ cond (leaves_turns (moment_of se s) (turn u)) (some (backward (moment_of se s) (turn u))) none
 next_backward T s u se e = rw e refl
-
--- A step has a turn where its directions are not the same.
-pub turn_told : (d e : Dir) → cond (same_dir d e) 0 1 ≡ turn_between d e
-turn_told down down = refl
-turn_told down up = refl
-turn_told up down = refl
-turn_told up up = refl
 
 -- A step carries what the step from the turned state does.
 pub carried_facing : (way : Way) (T : Table) (s : State) → carried T (facing way s) ≡ carried_by way T s

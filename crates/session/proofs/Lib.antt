@@ -5,6 +5,7 @@ pub mod Numbers
 pub mod Words
 pub mod Slices
 pub mod MovedWords
+pub mod Refused
 pub mod Arrivals
 pub mod BulletRules
 pub mod MovingRules

@@ -18,7 +18,7 @@ use Rattle.calls.specs.Visits.{Spot, same_dir, is_on, seek}
 use Rattle.calls.proofs.Peaks.{walked}
 use Rattle.calls.proofs.Carried.{step_carries_few}
 use Rattle.calls.proofs.Visits.{seek_none, seek_stops, seek_arrives, seek_goes_on, each_sought, sought}
-use Rattle.session.specs.Types.{dir_meant, session_meant, stop_meant, outcome_meant}
+use Rattle.session.specs.Types.{dir_meant, session_meant, stop_meant, walk_meant}
 use Rattle.session.specs.Steps.{TokenAt, Ready}
 use Rattle.session.specs.Weight.{weight_of, Weighable, bullets_after, HasCount}
 use Rattle.session.specs.Passes.{PassIs, begun_at, lengthened_to, halted_by}
@@ -26,8 +26,8 @@ use Rattle.session.specs.declared.Session as Declared
 use Rattle.session.specs.declared.Outcome as Came
 use Rattle.session.specs.declared.Stop as DeclaredStop
 use Rattle.session.specs.declared.Stop.TheVariants.{Spent, Found}
-use Rattle.session.specs.declared.choice.Rule.{Rule}
-use Rattle.session.specs.declared.winding.Pass.TheVariants.{On, Halted}
+use Rattle.session.specs.declared.winding.Passed.{Passed}
+use Rattle.std.specs.Prelude.{Ok, Err}
 use Rattle.session.proofs.Arrivals.{fits_within}
 use Rattle.session.proofs.Weighing.{few_bullets, pass_counted, pass_countable, weighs, weighable}
 
@@ -92,7 +92,7 @@ module _ (way : Way) (T : Table) (r : Room) (v : Spot) where
 
 -- The outcome of a session that holds the state where the whole run ends.
 module _ (o : Came.Outcome) {w : List ℕ} {n : ℕ} {ls ts : List ℕ} {s : State} (t : TokenAt w n o.session ls ts s) (r : Room) (same_room : room ls ts ≡ r) where
-  comes_out : (run : Run) (x : DeclaredStop.Stop) → run ≡ ended_after o.steps o.peak o.carried (moment_of (session_meant o.session) s) (stop_meant x) → outcome_meant (halted_by o x) ls ts ≡ wound r run
+  comes_out : (run : Run) (x : DeclaredStop.Stop) → run ≡ ended_after o.steps o.peak o.carried (moment_of (session_meant o.session) s) (stop_meant x) → walk_meant (halted_by o x) ls ts ≡ wound r run
   comes_out run x f =
       let h = t.enters.holds in
       (λ i. record {
@@ -155,10 +155,10 @@ module _ {way : Way} {w : List ℕ} {n : ℕ} {r : Room} {v : Spot} {run : Run} 
   left_by : (c : ℕ) → count - o.steps ≡ c → run ≡ preceded_by o.steps o.peak o.carried (seek way (table_in w n) r v c standing)
   left_by c e = sym l.left ∙ ap (λ j. preceded_by o.steps o.peak o.carried (seek way (table_in w n) r v j standing)) e
 
-  pub loop_spent : count ≤ o.steps → outcome_meant o ls ts ≡ wound r run
+  pub loop_spent : count ≤ o.steps → walk_meant o ls ts ≡ wound r run
   loop_spent d =
       let e : count - o.steps ≡ 0 = omega arith in
-      (λ i. outcome_meant (record { session = o.session; steps = o.steps; stop = l.unhalted i; peak = o.peak; carried = o.carried }) ls ts)
+      (λ i. walk_meant (record { session = o.session; steps = o.steps; stop = l.unhalted i; peak = o.peak; carried = o.carried }) ls ts)
       ∙ comes_out o l.token r same_room run Spent (left_by 0 e ∙ spent_here way (table_in w n) r v o.steps o.peak o.carried standing l.high)
 
   module _ (d : o.steps < count) where
@@ -172,21 +172,21 @@ module _ {way : Way} {w : List ℕ} {n : ℕ} {r : Room} {v : Spot} {run : Run} 
     stop_here : (q : Option Stop) → ((c : ℕ) → stop_before way (table_in w n) (room ls ts) (suc c) standing ≡ q) → stop_before way (table_in w n) r (suc still) standing ≡ q
     stop_here q stops = subst (λ x. stop_before way (table_in w n) x (suc still) standing ≡ q) same_room (stops still)
 
-    pub loop_halted : {ls' ts' : List ℕ} (x : DeclaredStop.Stop) → PassIs w n o.session ls ts way l.state (Halted x) ls' ts' → outcome_meant (halted_by o x) ls' ts' ≡ wound r run
+    pub loop_halted : {ls' ts' : List ℕ} (x : DeclaredStop.Stop) → PassIs w n o.session ls ts way l.state (Err x) ls' ts' → walk_meant (halted_by o x) ls' ts' ≡ wound r run
     loop_halted x p =
         let (stops, el, et) = p in
-        (λ i. outcome_meant (halted_by o x) (el i) (et i))
+        (λ i. walk_meant (halted_by o x) (el i) (et i))
         ∙ comes_out o l.token r same_room run x (left_by (suc still) one_left ∙ halted_here way (table_in w n) r v o.steps o.peak o.carried standing l.high still (stop_meant x) (stop_here (some (stop_meant x)) stops))
 
-    module _ {ls' ts' : List ℕ} {to : Declared.Session} (rule : Rule) (k : ℕ) (p : PassIs w n o.session ls ts way l.state (On to rule k) ls' ts') where
+    module _ {ls' ts' : List ℕ} (x : Passed) (p : PassIs w n o.session ls ts way l.state (Ok x) ls' ts') where
       -- the bullets after the step, and that there is such a number
-      still_counted : bullets_after rule b ≡ bullets p.0.tape
-      still_counted = ap (bullets_after rule) l.counted ∙ sym (pass_counted way (table_in w n) l.state rule p.1 (session_meant o.session) (moment_of (session_meant to) p.0) p.2)
+      still_counted : bullets_after x.rule b ≡ bullets p.0.tape
+      still_counted = ap (bullets_after x.rule) l.counted ∙ sym (pass_counted way (table_in w n) l.state x.rule p.1 (session_meant o.session) (moment_of (session_meant x.session) p.0) p.2)
 
-      pub loop_countable : HasCount rule b
-      loop_countable = subst (HasCount rule) (sym l.counted) (pass_countable way (table_in w n) l.state rule p.1 (few_bullets l.token))
+      pub loop_countable : HasCount x.rule b
+      loop_countable = subst (HasCount x.rule) (sym l.counted) (pass_countable way (table_in w n) l.state x.rule p.1 (few_bullets l.token))
 
-      pub loop_weighable : Weighable n to (bullets_after rule b)
+      pub loop_weighable : Weighable n x.session (bullets_after x.rule b)
       loop_weighable = weighable p.4 still_counted
 
       -- the slices are as long as they were
@@ -194,19 +194,19 @@ module _ {way : Way} {w : List ℕ} {n : ℕ} {r : Room} {v : Spot} {run : Run} 
       room_there = let (u, by_rule, e, stops, h, el, et, words) = p in λ i. record { log = (el ∙ l.same_log) i; tape = (et ∙ l.same_tape) i }
 
       -- the step carries no more than a slice holds
-      pub loop_carries_few : k ≤ longest
+      pub loop_carries_few : x.carried ≤ longest
       loop_carries_few =
           let (u, by_rule, e, stops, h, el, et, words) = p in
           omega (
             arith,
-            step_carries_few way (table_in w n) r (subst (λ x. x.log ≤ longest) same_room l.token.enters.short_log) standing (moment_of (session_meant to) u) e
+            step_carries_few way (table_in w n) r (subst (λ q. q.log ≤ longest) same_room l.token.enters.short_log) standing (moment_of (session_meant x.session) u) e
                 (fits_within l.token same_room) (fits_within h room_there),
           )
 
-      pub loop_goes_on : is_on v p.0 ≡ false → Loop way w n r v run count (lengthened_to o n to (bullets_after rule b) k) (bullets_after rule b) ls' ts'
+      pub loop_goes_on : is_on v p.0 ≡ false → Loop way w n r v run count (lengthened_to o n x.session (bullets_after x.rule b) x.carried) (bullets_after x.rule b) ls' ts'
       loop_goes_on away =
           let (u, by_rule, e, stops, h, el, et, words) = p in
-          let m : Moment = moment_of (session_meant to) u in
+          let m : Moment = moment_of (session_meant x.session) u in
           record {
             state = u;
             token = h;
@@ -215,18 +215,18 @@ module _ {way : Way} {w : List ℕ} {n : ℕ} {r : Room} {v : Spot} {run : Run} 
             same_tape = et ∙ l.same_tape;
             counted = still_counted;
             high = omega (arith, weighs h still_counted);
-            few_carried = (let few : k ≤ longest = loop_carries_few in let before : o.carried ≤ longest * o.steps = l.few_carried in omega arith);
+            few_carried = (let few : x.carried ≤ longest = loop_carries_few in let before : o.carried ≤ longest * o.steps = l.few_carried in omega arith);
             left =
                 ap₂ (λ q z. preceded_by (o.steps + 1) (max o.peak q) (o.carried + z) (seek way (table_in w n) r v still m)) (weighs h still_counted) words
                 ∙ sym (left_by (suc still) one_left ∙ one_more way (table_in w n) r v o.steps o.peak o.carried standing l.high still m (stop_here none stops) e away);
           }
 
       -- A step to a visit ends the run there.
-      pub loop_found : is_on v p.0 ≡ true → outcome_meant (halted_by (lengthened_to o n to (bullets_after rule b) k) Found) ls' ts' ≡ wound r run
+      pub loop_found : is_on v p.0 ≡ true → walk_meant (halted_by (lengthened_to o n x.session (bullets_after x.rule b) x.carried) Found) ls' ts' ≡ wound r run
       loop_found there =
           let (u, by_rule, e, stops, h, el, et, words) = p in
-          let m : Moment = moment_of (session_meant to) u in
-          comes_out (lengthened_to o n to (bullets_after rule b) k) h r room_there run Found
+          let m : Moment = moment_of (session_meant x.session) u in
+          comes_out (lengthened_to o n x.session (bullets_after x.rule b) x.carried) h r room_there run Found
           (left_by (suc still) one_left
           ∙ found_there way (table_in w n) r v o.steps o.peak o.carried standing l.high still m (stop_here none stops) e there
           ∙ ap₂ (λ q z. ended_after (o.steps + 1) (max o.peak q) (o.carried + z) m found) (sym (weighs h still_counted)) (sym words))

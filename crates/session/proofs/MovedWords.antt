@@ -6,7 +6,7 @@ use native.Mathlib.Numerals.{add-one}
 use native.Mathlib.Omega.{arith}
 use lib.ListN.{length, take, drop, get_or, set, replicate, length-append, length-reverse, length-drop, take-append-drop}
 use lib.Seq.{length-take-le, take_at, drop-cons, drop-append-le, set_at}
-use borrow.Rule.Slice.PartMut.{put_mid, mid_len}
+use borrow.Rule.Slice.PartMut.{put_mid}
 use Rattle.term.specs.Table.{Table}
 use Rattle.machine.specs.Entries.{Entry, entry, Log, ε, ◌▸◌, how_many, topmost, rest, entry_words, log_words}
 use Rattle.machine.specs.Good.{EntryIn, LogIn}
@@ -15,11 +15,9 @@ use Rattle.machine.specs.Span.{span}
 use Rattle.machine.proofs.Load.{reverse_apart}
 use Rattle.machine.proofs.Logs.{topmost_rest, words_onto}
 use Rattle.machine.proofs.Span.{span_none, span_log, span_one, span_topmost}
-use Rattle.session.specs.Extent.{ListIn, span_below}
+use Rattle.session.specs.Extent.{span_below}
 use Rattle.session.specs.Mover.{words_below, without, MoverIs, MakerIs}
-use Rattle.session.specs.Rules.{part_from, with_part, ends_after, EndsFit, MovedOnto}
-use Rattle.session.specs.declared.mover.Moving.{Moving}
-use Rattle.session.specs.declared.mover.Moving.TheVariants.{Moved, NoRoom}
+use Rattle.std.specs.Prelude.{Some}
 use Rattle.session.proofs.Slices.{Lies, Stacked, taken_off, taken_words, zeros_over, put_on, with_one, zeroed}
 
 -- each entry has its variable's word
@@ -137,8 +135,8 @@ module _ (T : Table) (from : List ℕ) (top owed own : ℕ) (to : List ℕ) (som
   pub lent_words : length (take (length to - 1) to) ≡ length to - 1
   lent_words = length-take-le (length to - 1) to (omega arith)
 
-  pub entry_put : (k : ℕ) (from' part : List ℕ) → top ≤ length from → MoverIs T from top owed (take (length to - 1) to) (Moved k) from' part
-      → MakerIs T from top owed own to (Moved k) from' (set (part ++ drop (length to - 1) to) k own)
+  pub entry_put : (k : ℕ) (from' part : List ℕ) → top ≤ length from → MoverIs T from top owed (take (length to - 1) to) (Some k) from' part
+      → MakerIs T from top owed own to (Some k) from' (set (part ++ drop (length to - 1) to) k own)
   entry_put k from' part inside i =
       let (k_is, few, room, moved) = i in
       let short = lent_words in
@@ -154,28 +152,3 @@ module _ (T : Table) (from : List ℕ) (top owed own : ℕ) (to : List ℕ) (som
       ∙ set_at (words_below from top k) (get_or to k 0) (drop (suc k) to) own k count
       ∙ ap (λ j. words_below from top k ++ (own ∷ drop j to)) (sym (add-one k)) in
       (k_is, few, here, moved.left, put)
-
-  pub entry_lacks_room : (from' part : List ℕ) → MoverIs T from top owed (take (length to - 1) to) NoRoom from' part
-      → MakerIs T from top owed own to NoRoom from' (part ++ drop (length to - 1) to)
-  entry_lacks_room from' part i =
-      let (short, same_from, same_part) = i in
-      let lent = lent_words in
-      let room : length to ≤ span_below T from top owed = (let z : ¬ (length to ≡ 0) = some_word in omega arith) in
-      (room, same_from, ap (λ q. q ++ drop (length to - 1) to) same_part ∙ take-append-drop (length to - 1) to)
-
--- Where the lists end once the mover filled the part of a slice that starts at the other list's end: no list is longer than its slice.
-module _ (T : Table) (from : List ℕ) (top owed : ℕ) (to : List ℕ) (end : ℕ) where
-  part_room : ListIn to end → length (part_from end to) ≡ length to - end
-  part_room inside = mid_len end (length to) to (omega arith)
-
-  pub mover_ends : ListIn to end → (m : Moving) (from' part : List ℕ) → MoverIs T from top owed (part_from end to) m from' part → EndsFit m top end 0
-  mover_ends inside (Moved k) from' part i = (i.1, omega (arith, part_room inside, i.2))
-  mover_ends inside NoRoom from' part i = tt
-
-  pub maker_ends : ListIn to end → (own : ℕ) (m : Moving) (from' part : List ℕ) → MakerIs T from top owed own (part_from end to) m from' part → EndsFit m top end 1
-  maker_ends inside own (Moved k) from' part i = (i.1, omega (arith, part_room inside, i.2))
-  maker_ends inside own NoRoom from' part i = tt
-
-  pub moved_onto : (m : Moving) (from' part : List ℕ) → MoverIs T from top owed (part_from end to) m from' part → MovedOnto T from top owed to end (ends_after m top end 0) from' (with_part end to part)
-  moved_onto (Moved k) from' part i = (part, i, refl, omega arith, refl)
-  moved_onto NoRoom from' part i = (part, i, refl)

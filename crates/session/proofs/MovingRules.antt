@@ -21,11 +21,9 @@ use Rattle.session.specs.declared.Dir.{Dir}
 use Rattle.session.specs.declared.Dir.TheVariants.{Down, Up}
 use Rattle.session.specs.declared.Session as Declared
 use Rattle.session.specs.declared.choice.Rule.TheVariants.{Three, Four, Six, Eight}
-use Rattle.session.specs.declared.mover.Moving.{Moving}
-use Rattle.session.specs.declared.mover.Moving.TheVariants.{Moved}
 use Rattle.session.specs.declared.rules.ListEnds.{ListEnds}
-use Rattle.session.specs.declared.rules.ListEnds.TheVariants.{At, NoRoom}
-use Rattle.session.specs.declared.rules.Stepped.TheVariants.{Made, LogFull, TapeFull}
+use Rattle.session.specs.declared.rules.Full.TheVariants as IsFull
+use Rattle.std.specs.Prelude.{Some, None, Ok, Err}
 use Rattle.session.proofs.Slices.{Lies}
 use Rattle.session.proofs.MovedWords.{entries_words, Found, zeros_above, lies_stacked, under_stacked, fewer, words_came, entry_came, words_left, words_left_under, entry_found, inside_found, entries_found}
 use Rattle.session.proofs.Arrivals.{log_there, tape_there, arrival, arrives}
@@ -49,20 +47,20 @@ module _ {w : List ℕ} {n : ℕ} {se : Declared.Session} {ls ts : List ℕ} {s 
     -- onto the log, from the tape below index `top`
     module _ (on : log_words L ≡ xs ++ log_words s.log) (top owed : ℕ) {above : List ℕ}
         (find : (k : ℕ) → k ≡ span_below (table_in w n) ts top owed → Found ts top k xs (tape_words t) above) where
-      log_gains : top ≤ length ts → (left came k : ℕ) (ls' ts' ts'' : List ℕ) → MovedOnto (table_in w n) ts top owed ls se.log_len (At left came k) ts' ls'
-          → ts'' ≡ slice (length ts) (tape_words t) → StepIs w n se ls ts s (Made (arrival j d came left k)) ls' ts''
-      log_gains inside left came k ls' ts' ts'' i lies_t =
+      log_gains : top ≤ length ts → (ends : ListEnds) (ls' ts' ts'' : List ℕ) → MovedOnto (table_in w n) ts top owed ls se.log_len (Some ends) ts' ls'
+          → ts'' ≡ slice (length ts) (tape_words t) → StepIs w n se ls ts s (Ok (onto_log j d ends)) ls' ts''
+      log_gains inside ends ls' ts' ts'' i lies_t =
           let (part, (k_is, few, room, moved), left_is, came_is, back) = i in
-          let found = find k k_is in
+          let found = find ends.carried k_is in
           let count = found.count in
           let there = log_room in
           let many = log_lies.many in
           let below = log_lies.fits in
-          let grown : came ≡ length (log_words L) = omega (arith, ap length on, length-append xs (log_words s.log)) in
-          arrives h j d L t e came left grown (left_is ∙ fewer found) (omega arith) (omega arith) k (omega arith) ls' ts''
+          let grown : ends.came ≡ length (log_words L) = omega (arith, ap length on, length-append xs (log_words s.log)) in
+          arrives h j d L t e ends.came ends.left grown (left_is ∙ fewer found) (omega arith) (omega arith) ends.carried (omega arith) ls' ts''
           (back ∙ ap (with_part se.log_len ls) moved.came ∙ words_came found log_lies (omega arith) ∙ ap (slice (length ls)) (sym on)) lies_t
 
-      log_lacks : (ls' ts' : List ℕ) → MovedOnto (table_in w n) ts top owed ls se.log_len NoRoom ts' ls' → StepIs w n se ls ts s LogFull ls' ts'
+      log_lacks : (ls' ts' : List ℕ) → MovedOnto (table_in w n) ts top owed ls se.log_len None ts' ls' → StepIs w n se ls ts s (Err IsFull.Log) ls' ts'
       log_lacks ls' ts' i =
           let (part, (short, same_tape, same_part), back) = i in
           let count = (find (span_below (table_in w n) ts top owed) refl).count in
@@ -76,7 +74,7 @@ module _ {w : List ℕ} {n : ℕ} {se : Declared.Session} {ls ts : List ℕ} {s 
       tape_gains : (l m k : ℕ) → l ≡ length (log_words L) → l ≤ length ls → m ≡ se.tape_len + length xs → m ≤ length ts
           → k ≡ (l - se.log_len) + (se.log_len - l)
           → (ls' ts' : List ℕ) → ls' ≡ slice (length ls) (log_words L) → ts' ≡ slice (length ts) (xs ++ tape_words s.tape)
-          → StepIs w n se ls ts s (Made (arrival j d l m k)) ls' ts'
+          → StepIs w n se ls ts s (Ok (arrival j d l m k)) ls' ts'
       tape_gains l m k l_is l_fits m_is m_fits k_is ls' ts' lies_l lies_t =
           let many = tape_lies.many in
           let grown : m ≡ length (tape_words t) = omega (arith, ap length on, length-append xs (tape_words s.tape)) in
@@ -84,7 +82,7 @@ module _ {w : List ℕ} {n : ℕ} {se : Declared.Session} {ls ts : List ℕ} {s 
 
       tape_lacks : length (part_from se.tape_len ts) < length xs → length (log_words L) ≤ length ls
           → (ls' part : List ℕ) → ls' ≡ ls → part ≡ part_from se.tape_len ts
-          → StepIs w n se ls ts s TapeFull ls' (with_part se.tape_len ts part)
+          → StepIs w n se ls ts s (Err IsFull.Tape) ls' (with_part se.tape_len ts part)
       tape_lacks short fits ls' part same_log same_part =
           let there = tape_room in
           let many = tape_lies.many in
@@ -115,10 +113,10 @@ module _ {w : List ℕ} {n : ℕ} {se : Declared.Session} {ls ts : List ℕ} {s 
     entry_3 : tape_words (held (entry s.node inner) ∷ s.tape) ≡ (se.node ∷ log_words inner) ++ tape_words s.tape
     entry_3 = ap (λ v. v ∷ (log_words inner ++ tape_words s.tape)) (sym h.enters.holds.node_is)
 
-    pub moved_3 : (m : Moving) (ls' part : List ℕ) → MakerIs (table_in w n) ls se.log_len a se.node (part_from se.tape_len ts) m ls' part
-        → StepIs w n se ls ts s (onto_tape j Up (ends_after m se.log_len se.tape_len 1)) ls' (with_part se.tape_len ts part)
+    pub made_3 : (k : ℕ) (ls' part : List ℕ) → MakerIs (table_in w n) ls se.log_len a se.node (part_from se.tape_len ts) (Some k) ls' part
+        → StepIs w n se ls ts s (Ok (onto_tape j Up (ends_after k se.log_len se.tape_len 1))) ls' (with_part se.tape_len ts part)
     unfolding inner left_3
-    moved_3 (Moved k) ls' part i =
+    made_3 k ls' part i =
         let (k_is, few, room, left, came) = i in
         let found = found_3 k_is in
         let count = found.count in
@@ -129,7 +127,11 @@ module _ {w : List ℕ} {n : ℕ} {se : Declared.Session} {ls ts : List ℕ} {s 
         tape_gains j Up f.1 (se.node ∷ log_words inner) entry_3 (se.log_len - k) (se.tape_len + k + 1) k (fewer found) (omega arith) (omega arith) (omega arith) (omega arith) ls' _
         (left ∙ words_left (length ls - length (log_words s.log)) found (omega arith))
         (ap (with_part se.tape_len ts) came ∙ entry_came found tape_lies se.node (omega arith))
-    moved_3 Moving.NoRoom ls' part i =
+
+    pub full_3 : (ls' part : List ℕ) → MakerIs (table_in w n) ls se.log_len a se.node (part_from se.tape_len ts) None ls' part
+        → StepIs w n se ls ts s (Err IsFull.Tape) ls' (with_part se.tape_len ts part)
+    unfolding inner left_3
+    full_3 ls' part i =
         let (short, same_log, same_part) = i in
         let found = found_3 refl in
         let count = found.count in
@@ -144,9 +146,6 @@ module _ {w : List ℕ} {n : ℕ} {se : Declared.Session} {ls ts : List ℕ} {s 
 
     abbrev above_4 : ℕ
     above_4 = length ts - suc (length (log_words f.0 ++ tape_words f.1))
-
-    pub some_4 : 1 ≤ se.tape_len
-    some_4 = let many = entry_4.many in omega arith
 
     good_4 : EntryIn (table_in w n) (entry j f.0)
     good_4 = (subst (TapeIn (table_in w n)) f.2 h.enters.holds.good.tape_items).0
@@ -163,16 +162,16 @@ module _ {w : List ℕ} {n : ℕ} {se : Declared.Session} {ls ts : List ℕ} {s 
           inside_found (table_in w n) f.0 (tape_words f.1) good_4.2 (under_stacked entry_4)
           (k_is ∙ ap (span_below (table_in w n) ts (se.tape_len - 1)) (a_is ∙ sym good_4.1))
 
-      pub made_4 : (left came k : ℕ) (ls' ts' : List ℕ) → MovedOnto (table_in w n) ts (se.tape_len - 1) a ls se.log_len (At left came k) ts' ls'
-          → StepIs w n se ls ts s (onto_log j Up (At left came k)) ls' (set ts' (se.tape_len - 1) 0)
-      made_4 left came k ls' ts' i =
+      pub made_4 : (ends : ListEnds) (ls' ts' : List ℕ) → MovedOnto (table_in w n) ts (se.tape_len - 1) a ls se.log_len (Some ends) ts' ls'
+          → StepIs w n se ls ts s (Ok (onto_log j Up ends)) ls' (set ts' (se.tape_len - 1) 0)
+      made_4 ends ls' ts' i =
           let (part, (k_is, few, room, moved), left_is, came_is, back) = i in
           let many = entry_4.many in
           let fits = entry_4.fits in
-          log_gains j Up f.3 (log_words f.0) (words_onto f.0 s.log) (se.tape_len - 1) a found_4 (omega arith) left came k ls' ts' _ i
-          (ap (λ q. set q (se.tape_len - 1) 0) moved.left ∙ words_left_under above_4 (found_4 k k_is) (omega arith))
+          log_gains j Up f.3 (log_words f.0) (words_onto f.0 s.log) (se.tape_len - 1) a found_4 (omega arith) ends ls' ts' _ i
+          (ap (λ q. set q (se.tape_len - 1) 0) moved.left ∙ words_left_under above_4 (found_4 ends.carried k_is) (omega arith))
 
-      pub full_4 : (ls' ts' : List ℕ) → MovedOnto (table_in w n) ts (se.tape_len - 1) a ls se.log_len NoRoom ts' ls' → StepIs w n se ls ts s LogFull ls' ts'
+      pub full_4 : (ls' ts' : List ℕ) → MovedOnto (table_in w n) ts (se.tape_len - 1) a ls se.log_len None ts' ls' → StepIs w n se ls ts s (Err IsFull.Log) ls' ts'
       full_4 = log_lacks j Up f.3 (log_words f.0) (words_onto f.0 s.log) (se.tape_len - 1) a found_4
 
   -- Rule 6: the tape's top entry goes onto the log.
@@ -182,16 +181,18 @@ module _ {w : List ℕ} {n : ℕ} {se : Declared.Session} {ls ts : List ℕ} {s 
         entry_found (table_in w n) f.0 (tape_words f.1) (subst (TapeIn (table_in w n)) f.2 h.enters.holds.good.tape_items).0
         (lies_stacked (tape_there h (held f.0 ∷ f.1) f.2)) k_is
 
-    pub moved_6 : (ends : ListEnds) (ls' ts' : List ℕ) → MovedOnto (table_in w n) ts se.tape_len 1 ls se.log_len ends ts' ls'
-        → StepIs w n se ls ts s (onto_log j Down ends) ls' ts'
-    moved_6 (At left came k) ls' ts' i =
+    pub made_6 : (ends : ListEnds) (ls' ts' : List ℕ) → MovedOnto (table_in w n) ts se.tape_len 1 ls se.log_len (Some ends) ts' ls'
+        → StepIs w n se ls ts s (Ok (onto_log j Down ends)) ls' ts'
+    made_6 ends ls' ts' i =
         let (part, (k_is, few, room, moved), left_is, came_is, back) = i in
-        let found = found_6 k k_is in
+        let found = found_6 ends.carried k_is in
         let many = found.stacked.many in
         let fits = tape_lies.fits in
-        log_gains j Down f.3 (entry_words f.0) refl se.tape_len 1 found_6 fits left came k ls' ts' ts' i
+        log_gains j Down f.3 (entry_words f.0) refl se.tape_len 1 found_6 fits ends ls' ts' ts' i
         (moved.left ∙ words_left (length ts - length (entry_words f.0 ++ tape_words f.1)) found (omega arith))
-    moved_6 NoRoom ls' ts' i = log_lacks j Down f.3 (entry_words f.0) refl se.tape_len 1 found_6 ls' ts' i
+
+    pub full_6 : (ls' ts' : List ℕ) → MovedOnto (table_in w n) ts se.tape_len 1 ls se.log_len None ts' ls' → StepIs w n se ls ts s (Err IsFull.Log) ls' ts'
+    full_6 = log_lacks j Down f.3 (entry_words f.0) refl se.tape_len 1 found_6
 
   -- Rule 8: the log's top entry goes onto the tape.
   module _ (j : ℕ) (f : RuleIs (table_in w n) s (Eight j)) where
@@ -200,9 +201,9 @@ module _ {w : List ℕ} {n : ℕ} {se : Declared.Session} {ls ts : List ℕ} {s 
         entry_found (table_in w n) f.0 (log_words f.1) (subst (LogIn (table_in w n)) f.2 h.enters.holds.good.log_entries).0
         (lies_stacked (log_there h (f.0 ▸ f.1) f.2)) k_is
 
-    pub moved_8 : (ends : ListEnds) (ls' ts' : List ℕ) → MovedOnto (table_in w n) ls se.log_len 1 ts se.tape_len ends ls' ts'
-        → StepIs w n se ls ts s (onto_tape j Down ends) ls' ts'
-    moved_8 (At left came k) ls' ts' i =
+    pub made_8 : (ends : ListEnds) (ls' ts' : List ℕ) → MovedOnto (table_in w n) ls se.log_len 1 ts se.tape_len (Some ends) ls' ts'
+        → StepIs w n se ls ts s (Ok (onto_tape j Down ends)) ls' ts'
+    made_8 ends ls' ts' i =
         let (part, (k_is, few, room, moved), left_is, came_is, back) = i in
         let found = found_8 k_is in
         let count = found.count in
@@ -210,10 +211,12 @@ module _ {w : List ℕ} {n : ℕ} {se : Declared.Session} {ls ts : List ℕ} {s 
         let there = tape_room in
         let below = tape_lies.fits in
         let fits = log_lies.fits in
-        tape_gains j Down f.3 (entry_words f.0) refl left came k (left_is ∙ fewer found) (omega arith) (omega arith) (omega arith) (omega arith) ls' ts'
+        tape_gains j Down f.3 (entry_words f.0) refl ends.left ends.came ends.carried (left_is ∙ fewer found) (omega arith) (omega arith) (omega arith) (omega arith) ls' ts'
         (moved.left ∙ words_left (length ls - length (entry_words f.0 ++ log_words f.1)) found (omega arith))
         (back ∙ ap (with_part se.tape_len ts) moved.came ∙ words_came found tape_lies (omega arith))
-    moved_8 NoRoom ls' ts' i =
+
+    pub full_8 : (ls' ts' : List ℕ) → MovedOnto (table_in w n) ls se.log_len 1 ts se.tape_len None ls' ts' → StepIs w n se ls ts s (Err IsFull.Tape) ls' ts'
+    full_8 ls' ts' i =
         let (part, (short, same_log, same_part), back) = i in
         let found = found_8 refl in
         let count = found.count in

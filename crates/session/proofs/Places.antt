@@ -14,13 +14,12 @@ use Rattle.machine.specs.Machine.{State}
 use Rattle.machine.specs.Good.{TapeIn}
 use Rattle.machine.proofs.Nodes.{not_zero}
 use Rattle.calls.specs.Session.{Given}
-use Rattle.calls.specs.Top.{Which, shown, not_shown, top_of_log, top_of_tape, top_by, top_of, seen, slice_given}
+use Rattle.calls.specs.Top.{Which, log, tape, as_told, shows, shown, not_shown, top_of_log, top_of_tape, top_by, top_of, seen, slice_given}
 use Rattle.calls.proofs.Top.{alone_in, cut, cut_fits}
 use Rattle.session.specs.Steps.{TokenAt}
-use Rattle.session.specs.Extent.{span_below}
-use Rattle.session.specs.Part.{place_in, placed}
+use Rattle.session.specs.Extent.{span_below, ListIn}
+use Rattle.session.specs.Part.{Placed, no_place, place_in, placed}
 use Rattle.session.specs.declared.Session as Declared
-use Rattle.session.specs.declared.part.PartPlace.{PartPlace}
 use Rattle.session.proofs.Slices.{Lies}
 use Rattle.session.proofs.MovedWords.{lies_stacked, fewer, entry_found}
 use Rattle.session.proofs.Arrivals.{log_there, tape_there}
@@ -51,7 +50,7 @@ module _ {w : List ℕ} {n : ℕ} {se : Declared.Session} {ls ts : List ℕ} {s 
   facts : Facts (table_in w n)
   facts = accepted_facts w n h.enters.accepted_table
 
-  pub log_place : place_in (table_in w n) ls se.log_len ≡ placed (top_by none (top_of_log s.log))
+  log_place : place_in (table_in w n) ls se.log_len ≡ placed (top_by none (top_of_log s.log))
   log_place = by_log s.log refl
     where
       by_log : (L : Log) → s.log ≡ L → place_in (table_in w n) ls se.log_len ≡ placed (top_by none (top_of_log L))
@@ -60,7 +59,7 @@ module _ {w : List ℕ} {n : ℕ} {se : Declared.Session} {ls ts : List ℕ} {s 
           let items = rw e at h.enters.holds.good.log_entries in
           item_place (table_in w n) facts ls se.log_len (held x) (log_words L) (items.0, tt) (log_there h (x ▸ L) e)
 
-  pub tape_place : place_in (table_in w n) ts se.tape_len ≡ placed (top_by none (top_of_tape s.tape))
+  tape_place : place_in (table_in w n) ts se.tape_len ≡ placed (top_by none (top_of_tape s.tape))
   tape_place = by_tape s.tape refl
     where
       by_tape : (t : Tape) → s.tape ≡ t → place_in (table_in w n) ts se.tape_len ≡ placed (top_by none (top_of_tape t))
@@ -70,8 +69,22 @@ module _ {w : List ℕ} {n : ℕ} {se : Declared.Session} {ls ts : List ℕ} {s 
           (alone_in (table_in w n) x t (rw e at h.enters.holds.good.tape_items))
           (tape_there h (x ∷ t) e)
 
+  -- of the list that is told, which fits its slice
+  pub told_place : (which : Which) → place_in (table_in w n) (as_told which ls ts) (as_told which se.log_len se.tape_len) ≡ placed (top_by none (shows which s))
+  told_place log = log_place
+  told_place tape = tape_place
+
+  pub told_fits : (which : Which) → ListIn (as_told which ls ts) (as_told which se.log_len se.tape_len)
+  told_fits log = (h.enters.holds.log_fits, h.enters.short_log)
+  told_fits tape = (h.enters.holds.tape_fits, h.enters.short_tape)
+
+-- A choice of the whole, and of a part.
+pub told_part : {A B : Type 0} (f : A → B) (which : Which) (x y : A) → f (as_told which x y) ≡ as_told which (f x) (f y)
+told_part f log x y = refl
+told_part f tape x y = refl
+
 -- What lies at that place of the chosen slice is the part that the call shows.
-module _ (which : Which) (g : Given) {p : PartPlace} (is : p ≡ placed (top_of which g)) where
+module _ (which : Which) (g : Given) {p : Placed} (is : p ≡ placed (top_of which g)) where
   pub place_fits : (p.offset + p.size ≤ length (slice_given which g)) × (p.offset + p.size ≤ 16384)
   place_fits =
       let same : p.offset + p.size ≡ (top_of which g).offset + (top_of which g).size = ap (λ q. q.offset + q.size) is in
@@ -84,3 +97,7 @@ module _ (which : Which) (g : Given) {p : PartPlace} (is : p ≡ placed (top_of 
       (λ i. (take (size i) (drop p.offset (slice_given which g)), p.refusal))
       ∙ (λ i. (take (is i).size (drop (is i).offset (slice_given which g)), (is i).refusal))
       ∙ (λ i. (cut which g i, (top_of which g).refusal))
+
+-- Where there is a number for a place, it is no word.
+pub place_refused : (which : Which) (g : Given) {k : ℕ} → no_place k ≡ placed (top_of which g) → ([], k) ≡ seen (top_of which g)
+place_refused which g e = place_cut which g e

@@ -1,6 +1,6 @@
 -- Searches from the state that a session holds: for node 0, which is the walk by its count; and back, found, or the whole way forward again, and none.
-use mathlib.Core.Path.{◌≡◌, sym, ap, ◌∙◌, subst}
-use mathlib.Core.Bool.{true, false, true≢false}
+use mathlib.Core.Path.{◌≡◌, refl, sym, ap, ◌∙◌, subst}
+use mathlib.Core.Bool.{false, true≢false}
 use mathlib.Core.List.{List}
 use Prim.Native.Nat.{ℕ, ◌≤◌}
 use Rattle.term.specs.Table.{Table, table_in}
@@ -20,13 +20,14 @@ use Rattle.calls.proofs.Visits.{wind_none, sought, each_sought}
 use Rattle.calls.proofs.Retrace.{backed, again}
 use Rattle.calls.proofs.Nowhere.{nowhere_found}
 use Rattle.calls.proofs.Entering.{enters_fits, laid_down, held_laid_down, laid_room, laid_enters}
-use Rattle.session.specs.Types.{way_meant, session_meant, stop_meant, outcome_meant}
+use Rattle.session.specs.Types.{way_meant, session_meant, stop_meant, walk_meant}
 use Rattle.session.specs.Steps.{TokenAt, Ready}
 use Rattle.session.specs.Passes.{halted_by, Winds}
 use Rattle.session.specs.Visits.{Seeks}
 use Rattle.session.specs.declared.Session as Declared
 use Rattle.session.specs.declared.Outcome as Came
-use Rattle.session.specs.declared.Stop.TheVariants.{None}
+use Rattle.session.specs.declared.Stop as DeclaredStop
+use Rattle.session.specs.declared.Stop.TheVariants.{Spent, Answer, Jam, Far, Start, LogFull, TapeFull, Found, None}
 use Rattle.session.specs.declared.winding.Way as DeclaredWay
 use Rattle.session.specs.declared.winding.Way.TheVariants.{Forward}
 
@@ -81,15 +82,12 @@ module _ {w : List ℕ} {n : ℕ} {se : Declared.Session} {ls ts : List ℕ} {s 
             subst (λ x. (wind forward T r x.steps x.last).last ≡ here) (sym e) (again T r facts se.position here good fits few near).last_is
 
     -- what the search leaves
-    module _ (o : Came.Outcome) (ls₁ ts₁ : List ℕ) (came : outcome_meant o ls₁ ts₁ ≡ wound r searched) where
+    module _ (o : Came.Outcome) (ls₁ ts₁ : List ℕ) (came : walk_meant o ls₁ ts₁ ≡ wound r searched) where
       abbrev left : Standing
       left = record { session = session_meant o.session; log = ls₁; tape = ts₁ }
 
       as_left : laid_down r searched.last ≡ left
       as_left = sym (λ i. record { session = (came i).session; log = (came i).log; tape = (came i).tape })
-
-      pub search_found : is_found (stop_meant o.stop) ≡ true → outcome_meant o ls₁ ts₁ ≡ wound r (seek_back T r v here)
-      search_found e = came ∙ rw (sym (ap (λ x. is_found x.stop) came) ∙ e)
 
       token_left : TokenAt w n o.session ls₁ ts₁ searched.last.state
       token_left = record {
@@ -111,7 +109,7 @@ module _ {w : List ℕ} {n : ℕ} {se : Declared.Session} {ls ts : List ℕ} {s 
             same_room : room ls₁ ts₁ ≡ r
             same_room = sym (ap (λ x. room x.log x.tape) as_left) ∙ laid_room r searched.last last_held.1
 
-            out : outcome_meant a ls₂ ts₂ ≡ wound r (wind forward T r searched.steps searched.last)
+            out : walk_meant a ls₂ ts₂ ≡ wound r (wind forward T r searched.steps searched.last)
             out =
                 winds searched.last.state token_left
                 ∙ (λ i. wound (same_room i) (wind forward T (same_room i) (came i).steps (moment_of (came i).session searched.last.state)))
@@ -121,11 +119,23 @@ module _ {w : List ℕ} {n : ℕ} {se : Declared.Session} {ls ts : List ℕ} {s 
 
         -- and a walk of no step from there, as none
         pub search_none : {ls₂ ts₂ : List ℕ} → (ls₂ ≡ ls) × (ts₂ ≡ ts) → (a : Came.Outcome) (ls₃ ts₃ : List ℕ) → Winds w n se ls₂ ts₂ Forward 0 a ls₃ ts₃
-            → outcome_meant (halted_by a None) ls₃ ts₃ ≡ wound r (seek_back T r v here)
+            → walk_meant (halted_by a None) ls₃ ts₃ ≡ wound r (seek_back T r v here)
         search_none e a ls₃ ts₃ winds =
             let stays : Winds w n se ls ts Forward 0 a ls₃ ts₃ = rw (e.0, e.1) at winds in
-            let k : outcome_meant a ls₃ ts₃ ≡ wound r (ended T here spent) = rw (wind_none forward T r here) at (stays s h) in
+            let k : walk_meant a ls₃ ts₃ ≡ wound r (ended T here spent) = rw (wind_none forward T r here) at (stays s h) in
             rw unseen (λ i. record { session = (k i).session; steps = (k i).steps; stop = Stop.none; peak = (k i).peak; carried = (k i).carried; log = (k i).log; tape = (k i).tape })
+
+-- Every stop but one is not found.
+pub not_found : (x : DeclaredStop.Stop) → (x ≡ Found → ⊥) → is_found (stop_meant x) ≡ false
+not_found Found e = absurd (e refl)
+not_found Spent e = refl
+not_found (Answer i) e = refl
+not_found Jam e = refl
+not_found Far e = refl
+not_found Start e = refl
+not_found LogFull e = refl
+not_found TapeFull e = refl
+not_found None e = refl
 
 -- A search for node 0 winds.
 pub nowhere_winds : (w : List ℕ) (n : ℕ) (se : Declared.Session) (ls ts : List ℕ) (way : DeclaredWay.Way) (count : ℕ) (o : Came.Outcome) (ls' ts' : List ℕ)

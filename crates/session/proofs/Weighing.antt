@@ -1,19 +1,18 @@
 -- Keeping count of the bullets: how many a slice has, how a rule changes them, and that session and count together tell what the state weighs.
 use mathlib.Core.Path.{◌≡◌, refl, sym, ap, ap₂, ◌∙◌, subst}
 use mathlib.Core.Option.{some}
-use mathlib.Core.List.{List, ◌∷◌}
-use Prim.Native.Nat.{ℕ, suc, ◌+◌, ◌-◌, ◌*◌, ◌≤◌, ◌<◌}
+use mathlib.Core.List.{List}
+use Prim.Native.Nat.{ℕ, suc, ◌+◌, ◌-◌, ◌*◌, ◌≤◌}
 use native.Mathlib.Numerals.{add-one}
 use native.Mathlib.Omega.{arith}
-use lib.ListN.{length, drop, get_or, drop_of_length-le}
 use Rattle.term.specs.Table.{Table, table_in}
 use Rattle.machine.specs.Machine.{State}
 use Rattle.calls.specs.Session.{Session}
 use Rattle.calls.specs.Stops.{Way, Moment, moment_of, log_size, tape_size, next_by}
 use Rattle.calls.specs.Digits.{digits}
-use Rattle.calls.specs.Weight.{bullets, weight, zero_words}
+use Rattle.calls.specs.Weight.{bullets, weight}
 use Rattle.calls.specs.Calls.{longest}
-use Rattle.calls.proofs.Weight.{other_word, tape_words_lem, all_words, weight_by_words, light}
+use Rattle.calls.proofs.Weight.{tape_words_lem, all_words, weight_by_words, light}
 use Rattle.session.specs.Steps.{TokenAt}
 use Rattle.session.specs.Rules.{RuleIs}
 use Rattle.session.specs.Passes.{facing}
@@ -21,21 +20,8 @@ use Rattle.session.specs.Weight.{words_of, weight_of, Weighable, bullets_after, 
 use Rattle.session.specs.declared.Session as Declared
 use Rattle.session.specs.declared.choice.Rule.{Rule}
 use Rattle.session.specs.declared.choice.Rule.TheVariants.{One, Two, Three, Four, Five, Six, Seven, Eight}
-use Rattle.session.proofs.Words.{next_word}
 use Rattle.session.proofs.Facing.{same_tape, next_state}
 use Rattle.session.proofs.Passes.{rule_steps}
-
--- ---- word by word from the low end of a slice
-
-module _ (s : List ℕ) (i : ℕ) where
-  pub bullet_next : i < length s → get_or s i 0 ≡ 0 → zero_words (drop i s) ≡ suc (zero_words (drop (i + 1) s))
-  bullet_next h z = ap zero_words (next_word s i h) ∙ ap (λ v. zero_words (v ∷ drop (i + 1) s)) z
-
-  pub other_next : i < length s → (get_or s i 0 ≡ 0 → ⊥) → zero_words (drop i s) ≡ zero_words (drop (i + 1) s)
-  other_next h z = ap zero_words (next_word s i h) ∙ other_word (get_or s i 0) (drop (i + 1) s) z
-
-  pub none_next : length s ≤ i → zero_words (drop i s) ≡ 0
-  none_next h = ap zero_words (drop_of_length-le s h)
 
 -- ---- by a rule, and by a pass
 

@@ -1,11 +1,10 @@
 -- Number 9 by counting alone: how many entries there are after the words of a slice, read from its low end.
-use Rattle.std.specs.Prelude.{◌≡◌, Bool, true, false, ◌&&◌, cond, List, [], ◌∷◌, ℕ, ◌+◌, ◌-◌, eqb}
+use Rattle.std.specs.Prelude.{◌≡◌, Bool, true, false, ◌&&◌, cond, List, [], ◌∷◌, ℕ, ◌+◌, ◌-◌, eqb, Some, None}
+use Rattle.std.specs.Prelude as Std
 use Rattle.std.proofs.Math.Option.{Option, none, some}
 use Rattle.term.specs.Choice.{◌>>=◌}
 use Rattle.term.specs.Table.{Table, arity}
 use Rattle.machine.specs.Slice.{makes_entry}
-use Rattle.session.specs.declared.check.Count.{Count}
-use Rattle.session.specs.declared.check.Count.TheVariants.{Entries, Bad}
 
 -- A variable's word takes the arity-many entries on top into its own; any other word makes none.
 unfoldable pub count_entry : Table → ℕ → ℕ → Option ℕ
@@ -29,7 +28,7 @@ have_log T ws have = have_words false T ws have
 abbrev pub have_tape : Table → List ℕ → ℕ → Option ℕ
 have_tape T ws have = have_words true T ws have
 
--- what the count promises
-abbrev pub CountIs : Option ℕ → Count → Type 0
-CountIs o (Entries k) = o ≡ some k
-CountIs o Bad = o ≡ none
+-- what the code's count promises
+abbrev pub CountIs : Option ℕ → Std.Option ℕ → Type 0
+CountIs o (Some k) = o ≡ some k
+CountIs o None = o ≡ none

@@ -1,9 +1,7 @@
 -- What the mover promises: the words of the top entries go from one list's slice to a part of the other's, or the part has no room for them.
-use Rattle.std.specs.Prelude.{◌≡◌, List, ◌∷◌, ◌++◌, ℕ, ◌+◌, ◌-◌, ◌≤◌, ◌<◌, length, take, drop, replicate}
+use Rattle.std.specs.Prelude.{◌≡◌, Option, Some, None, List, ◌∷◌, ◌++◌, ℕ, ◌+◌, ◌-◌, ◌≤◌, ◌<◌, length, take, drop, replicate}
 use Rattle.term.specs.Table.{Table}
 use Rattle.session.specs.Extent.{span_below}
-use Rattle.session.specs.declared.mover.Moving.{Moving}
-use Rattle.session.specs.declared.mover.Moving.TheVariants.{Moved, NoRoom}
 
 -- the k words below index `top` of a slice, in the slice's order
 abbrev pub words_below : List ℕ → ℕ → ℕ → List ℕ
@@ -19,17 +17,17 @@ pub record WordsMoved (from : List ℕ) (top k : ℕ) (to from' to' : List ℕ) 
   pub came : to' ≡ words_below from top k ++ drop k to
 
 -- The mover found k words, and they are moved; or the part is shorter than they are, and nothing is.
-abbrev pub MoverIs : Table → List ℕ → ℕ → ℕ → List ℕ → Moving → List ℕ → List ℕ → Type 0
-MoverIs T from top owed to (Moved k) from' to' =
+abbrev pub MoverIs : Table → List ℕ → ℕ → ℕ → List ℕ → Option ℕ → List ℕ → List ℕ → Type 0
+MoverIs T from top owed to (Some k) from' to' =
     (k ≡ span_below T from top owed) × (k ≤ top) × (k ≤ length to) × WordsMoved from top k to from' to'
-MoverIs T from top owed to NoRoom from' to' = (length to < span_below T from top owed) × (from' ≡ from) × (to' ≡ to)
+MoverIs T from top owed to None from' to' = (length to < span_below T from top owed) × (from' ≡ from) × (to' ≡ to)
 
 -- The same with a word of its own above them: the entry of a variable and of the entries that went.
-abbrev pub MakerIs : Table → List ℕ → ℕ → ℕ → ℕ → List ℕ → Moving → List ℕ → List ℕ → Type 0
-MakerIs T from top owed own to (Moved k) from' to' =
+abbrev pub MakerIs : Table → List ℕ → ℕ → ℕ → ℕ → List ℕ → Option ℕ → List ℕ → List ℕ → Type 0
+MakerIs T from top owed own to (Some k) from' to' =
     (k ≡ span_below T from top owed)
     × (k ≤ top)
     × (k < length to)
     × (from' ≡ without from top k)
     × (to' ≡ words_below from top k ++ (own ∷ drop (k + 1) to))
-MakerIs T from top owed own to NoRoom from' to' = (length to ≤ span_below T from top owed) × (from' ≡ from) × (to' ≡ to)
+MakerIs T from top owed own to None from' to' = (length to ≤ span_below T from top owed) × (from' ≡ from) × (to' ≡ to)

@@ -1,5 +1,5 @@
 -- What the functions of a winding loop promise: what ends a walk before a step, one pass of the loop, and the running outcome.
-use Rattle.std.specs.Prelude.{◌≡◌, Bool, false, ◌&&◌, cond, List, ℕ, suc, ◌+◌, ◌-◌, ◌≤◌, ◌<◌, max, length, leb, ltb, eqb}
+use Rattle.std.specs.Prelude.{◌≡◌, Result, Ok, Err, Bool, false, ◌&&◌, cond, List, ℕ, suc, ◌+◌, ◌-◌, ◌≤◌, ◌<◌, max, length, leb, ltb, eqb}
 use Rattle.std.proofs.Math.Option.{none, some}
 use Rattle.term.specs.Table.{Table, table_in}
 use Rattle.machine.specs.Machine.{Dir, down, up, State, step, turned, turn}
@@ -7,7 +7,7 @@ use Rattle.calls.specs.Session
 use Rattle.calls.specs.Stops.{Way, forward, back, Moment, moment, moment_of, room, greatest, is_answer, next_by, halt_before, stop_before}
 use Rattle.calls.specs.Winding.{carried_by, wind}
 use Rattle.calls.specs.Calls.{wound}
-use Rattle.session.specs.Types.{way_meant, session_meant, stop_meant, outcome_meant}
+use Rattle.session.specs.Types.{way_meant, session_meant, stop_meant, walk_meant}
 use Rattle.session.specs.Steps.{TokenAt}
 use Rattle.session.specs.Rules.{RuleIs}
 use Rattle.session.specs.Weight.{weight_of}
@@ -18,10 +18,7 @@ use Rattle.session.specs.declared.Stop as DeclaredStop
 use Rattle.session.specs.declared.choice.Rule.{Rule}
 use Rattle.session.specs.declared.choice.Rule.TheVariants.{One, Two, Three, Four, Five, Six, Seven, Eight}
 use Rattle.session.specs.declared.winding.Way as DeclaredWay
-use Rattle.session.specs.declared.winding.Before.{Before}
-use Rattle.session.specs.declared.winding.Before.TheVariants.{Ends, Makes}
-use Rattle.session.specs.declared.winding.Pass.{Pass}
-use Rattle.session.specs.declared.winding.Pass.TheVariants.{On, Halted}
+use Rattle.session.specs.declared.winding.Passed.{Passed}
 
 -- A session with its direction turned.
 abbrev pub turned_session : Session.Session → Session.Session
@@ -101,10 +98,10 @@ rule_dir (Six j) = down
 rule_dir (Seven j) = up
 rule_dir (Eight j) = down
 
--- Before a step by a rule, which has k turns: the turns after it; going back from a position that is not 0, a jam where they would be "below 0, or above the new position".
-abbrev pub turns_left : Way → Declared.Session → Rule → ℕ → Before
-turns_left forward se r k = Makes r (se.turns + k)
-turns_left back se r k = cond (leb k se.turns && ltb (se.turns - k) se.position) (Makes r (se.turns - k)) (Ends Jam)
+-- The turns after a step that has k; going back from a position that is not 0, a jam where they would be "below 0, or above the new position".
+abbrev pub turns_left : Way → Declared.Session → ℕ → Result ℕ DeclaredStop.Stop
+turns_left forward se k = Ok (se.turns + k)
+turns_left back se k = cond (leb k se.turns && ltb (se.turns - k) se.position) (Ok (se.turns - k)) (Err Jam)
 
 -- what is added fits a word
 abbrev pub CanTurn : Way → Declared.Session → ℕ → Type 0
@@ -112,33 +109,33 @@ CanTurn forward se k = se.turns + k ≤ greatest
 CanTurn back se k = Unit
 
 -- Before a step, the count not used up: the stop, if it is not a full slice; or the rule that fits what the step is made from, and the turns of the moment that it leads to.
-abbrev pub BeforeIs : List ℕ → ℕ → Declared.Session → Way → State → Before → Type 0
-BeforeIs w n se way s (Ends x) = (c : ℕ) → halt_before way (table_in w n) (suc c) (moment_of (session_meant se) s) ≡ some (stop_meant x)
-BeforeIs w n se way s (Makes r k) =
+abbrev pub BeforeIs : List ℕ → ℕ → Declared.Session → Way → State → Result (Rule × ℕ) DeclaredStop.Stop → Type 0
+BeforeIs w n se way s (Err x) = (c : ℕ) → halt_before way (table_in w n) (suc c) (moment_of (session_meant se) s) ≡ some (stop_meant x)
+BeforeIs w n se way s (Ok (r, k)) =
     ((c : ℕ) → halt_before way (table_in w n) (suc c) (moment_of (session_meant se) s) ≡ none)
     × HasNext way se.position
     × RuleIs (table_in w n) (facing way s) r
     × ((u : State) → step (table_in w n) (facing way s) ≡ some u
     → next_by way (table_in w n) (moment_of (session_meant se) s) ≡ some (moment (facing way u) (position_after way se.position) k))
 
-abbrev pub TellsBefore : List ℕ → ℕ → Declared.Session → List ℕ → Way → Before → Type 0
+abbrev pub TellsBefore : List ℕ → ℕ → Declared.Session → List ℕ → Way → Result (Rule × ℕ) DeclaredStop.Stop → Type 0
 TellsBefore w n se ts way b = (ls : List ℕ) (s : State) → TokenAt w n se ls ts s → BeforeIs w n se way s b
 
 -- One pass of the loop, the count not used up: on to the next moment by a rule, with the words that the step carries, or halted where it stands.
-abbrev pub PassIs : List ℕ → ℕ → Declared.Session → List ℕ → List ℕ → Way → State → Pass → List ℕ → List ℕ → Type 0
-PassIs w n se ls ts way s (On to r k) ls' ts' =
+abbrev pub PassIs : List ℕ → ℕ → Declared.Session → List ℕ → List ℕ → Way → State → Result Passed DeclaredStop.Stop → List ℕ → List ℕ → Type 0
+PassIs w n se ls ts way s (Ok p) ls' ts' =
     (u : State)
-    × RuleIs (table_in w n) (facing way s) r
-    × (next_by way (table_in w n) (moment_of (session_meant se) s) ≡ some (moment_of (session_meant to) u))
+    × RuleIs (table_in w n) (facing way s) p.rule
+    × (next_by way (table_in w n) (moment_of (session_meant se) s) ≡ some (moment_of (session_meant p.session) u))
     × ((c : ℕ) → stop_before way (table_in w n) (room ls ts) (suc c) (moment_of (session_meant se) s) ≡ none)
-    × TokenAt w n to ls' ts' u
+    × TokenAt w n p.session ls' ts' u
     × (length ls' ≡ length ls)
     × (length ts' ≡ length ts)
-    × (k ≡ carried_by way (table_in w n) s)
-PassIs w n se ls ts way s (Halted x) ls' ts' =
+    × (p.carried ≡ carried_by way (table_in w n) s)
+PassIs w n se ls ts way s (Err x) ls' ts' =
     ((c : ℕ) → stop_before way (table_in w n) (room ls ts) (suc c) (moment_of (session_meant se) s) ≡ some (stop_meant x)) × (ls' ≡ ls) × (ts' ≡ ts)
 
-abbrev pub Passes : List ℕ → ℕ → Declared.Session → List ℕ → List ℕ → DeclaredWay.Way → Pass → List ℕ → List ℕ → Type 0
+abbrev pub Passes : List ℕ → ℕ → Declared.Session → List ℕ → List ℕ → DeclaredWay.Way → Result Passed DeclaredStop.Stop → List ℕ → List ℕ → Type 0
 Passes w n se ls ts way p ls' ts' = (s : State) → TokenAt w n se ls ts s → PassIs w n se ls ts (way_meant way) s p ls' ts'
 
 -- The running outcome of a loop: of no step, with one step more, and halted. Of the last numbers b is that of the bullets there, and k of the words that the step carried.
@@ -155,4 +152,4 @@ halted_by o x = record { session = o.session; steps = o.steps; stop = x; peak = 
 abbrev pub Winds : List ℕ → ℕ → Declared.Session → List ℕ → List ℕ → DeclaredWay.Way → ℕ → Came.Outcome → List ℕ → List ℕ → Type 0
 Winds w n se ls ts way count o ls' ts' =
     (s : State) → TokenAt w n se ls ts s
-    → outcome_meant o ls' ts' ≡ wound (room ls ts) (wind (way_meant way) (table_in w n) (room ls ts) count (moment_of (session_meant se) s))
+    → walk_meant o ls' ts' ≡ wound (room ls ts) (wind (way_meant way) (table_in w n) (room ls ts) count (moment_of (session_meant se) s))

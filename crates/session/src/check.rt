@@ -1,106 +1,80 @@
 // The numbers 7, 8, 9, 12 and 15, in their order of test.
-ghost use Rattle.std.specs.Prelude.{◌≡◌, true, false, not, ◌^◌, ◌<◌, ◌≤◌, length, drop, eqb};
+ghost use Rattle.std.specs.Prelude.{◌≡◌, IfOk, not, ◌^◌, ◌<◌, ◌≤◌, length, drop, eqb, true, false};
 ghost use Rattle.term.specs.Choice.{is_none, if_some};
-ghost use Rattle.term.specs.Table.{table_in};
+ghost use Rattle.term.specs.Tree.{tree_table};
 ghost use Rattle.machine.specs.Slice.{all_zero};
 ghost use Rattle.calls.specs.Held.{state_in};
 ghost use Rattle.session.specs.Counting.{count_entry, is_bullet, have_words, have_log, have_tape, CountIs};
 ghost use Rattle.calls.specs.Calls.{lent_number, call_number};
 ghost use Rattle.calls.specs.Looks.{go_number};
 ghost use Rattle.calls.specs.Visits.{visit_number};
-ghost use Rattle.session.specs.Types.{session_meant, lent, number_meant};
+ghost use Rattle.session.specs.Types.{session_meant, lent, refused_by};
 
 use crate::Session;
 use crate::extent::arity;
+use term::{Kind, Refusal, Tree};
 
 // Whether every word is 0.
 fn zeros(words: &[u32]) -> bool
     ensures { result ≡ all_zero words.now }
 {
-    let mut i: usize = 0;
-    while i < words.len() {
-        if words[i] != 0 {
-            return false;
-        }
-        i += 1;
-    }
-    true
+    words.iter().all(|word| *word == 0)
 }
 
-// How many entries there are once word v has taken its arity-many of those there were, or 0 where it makes none.
-fn entries_with(table: &[u16], n: u32, v: u32, have: usize) -> usize
+// How many entries there are once word v has taken its arity-many of those there were; none where it makes no entry.
+fn entries_with(tree: &Tree<'_>, v: u32, have: usize) -> Option<usize>
     requires { have < 2 ^ 63 }
-    ensures { result ≡ number_meant (count_entry (table_in table.now n) v have) }
+    ensures { CountIs (count_entry (tree_table tree.now) v have) result }
 {
-    if term::kind(table, n, v) != 1 {
-        return 0;
+    if tree.kind(v) != Some(Kind::Variable) {
+        return None;
     }
-    let a = arity(table, n, v) as usize;
-    if have < a { 0 } else { have - a + 1 }
-}
-
-// How many entries words make, or that one of them makes no entry.
-#[derive(Clone, Copy)]
-pub(crate) enum Count {
-    Entries(usize),
-    Bad,
+    let left = have.checked_sub(arity(tree, v) as usize)?;
+    Some(left + 1)
 }
 
 // Whether a word is a bullet, where bullets may stand.
 fn is_bullet(word: u32, bullets: bool) -> bool
     ensures { result ≡ is_bullet bullets word }
 {
-    if bullets { word == 0 } else { false }
+    bullets && word == 0
 }
 
-// The entries that the words, read from the low end, leave on top, down to a bullet.
-fn entries_in(table: &[u16], n: u32, words: &[u32], bullets: bool) -> Count
-    ensures { CountIs (have_words bullets (table_in table.now n) words.now 0) result }
+// The entries that the words, read from the low end, leave on top, down to a bullet; none where one of them makes no entry.
+fn entries_in(tree: &Tree<'_>, words: &[u32], bullets: bool) -> Option<usize>
+    ensures { CountIs (have_words bullets (tree_table tree.now) words.now 0) result }
 {
     let mut have: usize = 0;
-    let mut i: usize = 0;
-    while i < words.len() {
-        if is_bullet(words[i], bullets) {
-            have = 0;
+    for word in words {
+        have = if is_bullet(*word, bullets) {
+            0
         } else {
-            have = entries_with(table, n, words[i], have);
-            if have == 0 {
-                return Count::Bad;
-            }
-        }
-        i += 1;
+            entries_with(tree, *word, have)?
+        };
     }
-    Count::Entries(have)
+    Some(have)
 }
 
 // Whether the words are those of so many entries.
-fn is_log(table: &[u16], n: u32, words: &[u32], level: u32) -> bool
-    ensures { result ≡ if_some (have_log (table_in table.now n) words.now 0) (λ k. eqb k level) (λ _. false) }
+fn is_log(tree: &Tree<'_>, words: &[u32], level: u32) -> bool
+    ensures { result ≡ if_some (have_log (tree_table tree.now) words.now 0) (λ k. eqb k level) (λ _. false) }
 {
-    let counted = entries_in(table, n, words, false);
-    match counted {
-        Count::Entries(k) => k == level as usize,
-        Count::Bad => false,
-    }
+    entries_in(tree, words, false) == Some(level as usize)
 }
 
 // Whether the words are those of bullets and entries.
-fn is_tape(table: &[u16], n: u32, words: &[u32]) -> bool
-    ensures { result ≡ not (is_none (have_tape (table_in table.now n) words.now 0)) }
+fn is_tape(tree: &Tree<'_>, words: &[u32]) -> bool
+    ensures { result ≡ not (is_none (have_tape (tree_table tree.now) words.now 0)) }
 {
-    let counted = entries_in(table, n, words, true);
-    match counted {
-        Count::Entries(_) => true,
-        Count::Bad => false,
-    }
+    entries_in(tree, words, true).is_some()
 }
 
 // Whether the words below both tops are the log and the tape of a state at the session's node, and its turns are not over its position: the walk over the entries. It sees no word above a top, so its answer is
 // number 9's only after a look there: it "demands that every word above both tops is 0" (document 02, change 4).
-fn walk_entries(table: &[u16], n: u32, session: Session, log: &[u32], tape: &[u32]) -> bool
+fn walk_entries(tree: &Tree<'_>, session: Session, log: &[u32], tape: &[u32]) -> bool
     requires log_len_in_bounds { (session.log_len ≤ length log.now) × (session.tape_len ≤ length tape.now) }
     requires log_value { (all_zero (drop session.log_len log.now) ≡ true) × (all_zero (drop session.tape_len tape.now) ≡ true) }
-    ensures { result ≡ not (is_none (state_in (table_in table.now n) (session_meant session)
+    ensures { result ≡ not (is_none (state_in (tree_table tree.now) (session_meant session)
         log.now tape.now)) }
 {
     let node = session.node;
@@ -109,22 +83,22 @@ fn walk_entries(table: &[u16], n: u32, session: Session, log: &[u32], tape: &[u3
     if node == 0 {
         return false;
     }
-    if n < node {
+    if tree.n() < node {
         return false;
     }
     if session.position < session.turns {
         return false;
     }
-    let level = term::level(table, n, node);
-    if !is_log(table, n, &log[..l], level) {
+    let level = tree.level(node);
+    if !is_log(tree, &log[..l], level) {
         return false;
     }
-    is_tape(table, n, &tape[..t])
+    is_tape(tree, &tape[..t])
 }
 
 // Whether the session and its slices hold a state: once both tops lie in their slices, first the look at the words above them, and only then the walk.
-fn holds_state(table: &[u16], n: u32, session: Session, log: &[u32], tape: &[u32]) -> bool
-    ensures { result ≡ not (is_none (state_in (table_in table.now n) (session_meant session)
+fn holds_state(tree: &Tree<'_>, session: Session, log: &[u32], tape: &[u32]) -> bool
+    ensures { result ≡ not (is_none (state_in (tree_table tree.now) (session_meant session)
         log.now tape.now)) }
 {
     let l = session.log_len as usize;
@@ -141,76 +115,86 @@ fn holds_state(table: &[u16], n: u32, session: Session, log: &[u32], tape: &[u32
     if !zeros(&tape[t..]) {
         return false;
     }
-    walk_entries(table, n, session, log, tape)
+    walk_entries(tree, session, log, tape)
 }
 
-// Numbers 7 and 8, which are put to what every call is lent, or 0.
-pub(crate) fn lent_number(table: &[u16], n: u32, log: &[u32], tape: &[u32]) -> u32
-    ensures { result ≡ number_meant (lent_number table.now n log.now tape.now) }
+// Numbers 7 and 8, which are put to what every call is lent.
+pub(crate) fn test_lent<'a>(
+    table: &'a [u16],
+    n: u32,
+    log: &[u32],
+    tape: &[u32],
+) -> Result<Tree<'a>, Refusal>
+    ensures number { refused_by result ≡ lent_number table.now n log.now tape.now }
+    ensures same { IfOk result (λ t. (t.words ≡ table.now) × (t.n ≡ n)) }
 {
-    if !term::accepts(table, n) {
-        return 7;
-    }
+    let Some(tree) = Tree::accept(table, n) else {
+        return Err(Refusal::NotATable);
+    };
     if log.len() > 16384 {
-        return 8;
+        return Err(Refusal::SliceTooLong);
     }
     if tape.len() > 16384 {
-        return 8;
+        return Err(Refusal::SliceTooLong);
     }
-    0
+    Ok(tree)
 }
 
-// Numbers 7 to 9, which are put to every call on a session, or 0.
-pub(crate) fn call_number(table: &[u16], n: u32, session: Session, log: &[u32], tape: &[u32]) -> u32
-    ensures { result ≡ number_meant (call_number (lent table.now n session log.now tape.now)) }
+// Numbers 7 to 9, which are put to every call on a session.
+pub(crate) fn test_call<'a>(
+    table: &'a [u16],
+    n: u32,
+    session: Session,
+    log: &[u32],
+    tape: &[u32],
+) -> Result<Tree<'a>, Refusal>
+    ensures number { refused_by result ≡ call_number (lent table.now n session log.now tape.now) }
+    ensures same { IfOk result (λ t. (t.words ≡ table.now) × (t.n ≡ n)) }
 {
-    let lent = lent_number(table, n, log, tape);
-    if lent != 0 {
-        return lent;
+    let tree = test_lent(table, n, log, tape)?;
+    if !holds_state(&tree, session, log, tape) {
+        return Err(Refusal::NotAState);
     }
-    if holds_state(table, n, session, log, tape) {
-        0
-    } else {
-        9
-    }
+    Ok(tree)
 }
 
-// The number that refuses the calls to a node, or 0.
-pub(crate) fn visit_number(
-    table: &[u16],
+// What is put to the calls to a node: after 7 to 9, a node that the term has not.
+pub(crate) fn test_visit<'a>(
+    table: &'a [u16],
     n: u32,
     session: Session,
     log: &[u32],
     tape: &[u32],
     node: u32,
-) -> u32
-    ensures { result ≡ number_meant (visit_number node (lent table.now n session log.now tape.now)) }
+) -> Result<Tree<'a>, Refusal>
+    ensures number { refused_by result ≡ visit_number node (lent table.now n session log.now tape.now) }
+    ensures same { IfOk result (λ t. (t.words ≡ table.now) × (t.n ≡ n)) }
 {
-    let number = call_number(table, n, session, log, tape);
-    if number != 0 {
-        return number;
-    }
+    let tree = test_call(table, n, session, log, tape)?;
     if node == 0 {
-        return 12;
+        return Err(Refusal::NoSuchNode);
     }
-    if node > n { 12 } else { 0 }
+    if node > n {
+        return Err(Refusal::NoSuchNode);
+    }
+    Ok(tree)
 }
 
-// The number that refuses go, or 0: after 7 to 9, a session that is not at the position.
-pub(crate) fn go_number(
-    table: &[u16],
+// What is put to go: after 7 to 9, a session that is not at the position.
+pub(crate) fn test_go<'a>(
+    table: &'a [u16],
     n: u32,
     session: Session,
     log: &[u32],
     tape: &[u32],
     position: u32,
-) -> u32
-    ensures { result ≡ number_meant (go_number position (lent table.now n session log.now tape.now)) }
+) -> Result<Tree<'a>, Refusal>
+    ensures number { refused_by result ≡ go_number position (lent table.now n session log.now tape.now) }
+    ensures same { IfOk result (λ t. (t.words ≡ table.now) × (t.n ≡ n)) }
 {
-    let here = session.position;
-    let earlier = call_number(table, n, session, log, tape);
-    if earlier != 0 {
-        return earlier;
+    let tree = test_call(table, n, session, log, tape)?;
+    if session.position != position {
+        return Err(Refusal::Elsewhere);
     }
-    if here == position { 0 } else { 15 }
+    Ok(tree)
 }

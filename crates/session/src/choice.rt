@@ -1,10 +1,11 @@
 // Which of the eight rules fits a session.
-ghost use Rattle.std.specs.Prelude.{◌≡◌, ◌≤◌, length};
+ghost use Rattle.std.specs.Prelude.{◌≡◌, ◌-◌, ◌≤◌, MatchOption, length, slice_index};
 ghost use Rattle.session.specs.Rules.{Chooses};
 
 use crate::{Dir, Session};
+use term::{Kind, Tree};
 
-// The rule of document 01 that fits, and the node that it leads to.
+// The rule of document 01 that fits, and the node that it leads to. Each case has its node, so that a rule stands nowhere without one; all that asks for a rule's kind alone groups cases.
 #[derive(Clone, Copy)]
 pub(crate) enum Rule {
     One(u32),
@@ -17,91 +18,70 @@ pub(crate) enum Rule {
     Eight(u32),
 }
 
-// The rule that fits, if one does.
-#[derive(Clone, Copy)]
-pub(crate) enum Fit {
-    By(Rule),
-    Unfit,
+// The word on top of a tape of so many words, if it has one.
+fn top_word(tape: &[u32], len: u32) -> Option<u32>
+    requires { len ≤ length tape.now }
+    ensures { MatchOption result (len ≡ 0) (λ word. (1 ≤ len) × (word ≡ slice_index tape.now (len - 1))) }
+{
+    tape[..len as usize].last().copied()
 }
 
-// The rule that fits down at a node: by the node's kind, and at an abstraction by the word on top of the tape.
-fn chosen_down(table: &[u16], n: u32, session: Session, tape: &[u32]) -> Fit
+// The rule that fits down at a node, if one does: by the node's kind, and at an abstraction by the word on top of the tape.
+fn chosen_down(tree: &Tree<'_>, session: Session, tape: &[u32]) -> Option<Rule>
     requires { (session.dir ≡ Dir.Down) × (session.tape_len ≤ length tape.now) }
-    ensures { Chooses table.now n session tape.now result }
+    ensures { Chooses tree.now.words tree.now.n session tape.now result }
 {
     let node = session.node;
-    let m = session.tape_len as usize;
-    let kind = term::kind(table, n, node);
-    let left = term::left(table, n, node);
-    if kind == 3 {
-        return Fit::By(Rule::One(left));
-    }
-    if kind == 1 {
-        return Fit::By(Rule::Three(left));
-    }
-    if kind != 2 {
-        return Fit::Unfit;
-    }
-    if m == 0 {
-        return Fit::Unfit;
-    }
-    let top = tape[m - 1];
-    if top == 0 {
-        return Fit::By(Rule::Two(left));
-    }
-    let binder = term::left(table, n, top);
-    if binder == node {
-        Fit::By(Rule::Four(top))
-    } else {
-        Fit::Unfit
+    let left = tree.left(node);
+    match tree.kind(node)? {
+        Kind::Application => Some(Rule::One(left)),
+        Kind::Variable => Some(Rule::Three(left)),
+        Kind::Abstraction => {
+            let top = top_word(tape, session.tape_len)?;
+            if top == 0 {
+                return Some(Rule::Two(left));
+            }
+            let binder = tree.left(top);
+            if binder == node {
+                Some(Rule::Four(top))
+            } else {
+                None
+            }
+        }
     }
 }
 
-// The rule that fits up at a node: by its place under its parent, and at a function by the word on top of the tape.
-fn chosen_up(table: &[u16], n: u32, session: Session, tape: &[u32]) -> Fit
+// The rule that fits up at a node, if one does: by its place under its parent, and at a function by the word on top of the tape.
+fn chosen_up(tree: &Tree<'_>, session: Session, tape: &[u32]) -> Option<Rule>
     requires { (session.dir ≡ Dir.Up) × (session.tape_len ≤ length tape.now) }
-    ensures { Chooses table.now n session tape.now result }
+    ensures { Chooses tree.now.words tree.now.n session tape.now result }
 {
     let node = session.node;
-    let m = session.tape_len as usize;
-    let p = term::parent(table, n, node);
-    let kind = term::kind(table, n, p);
-    let left = term::left(table, n, p);
-    let right = term::right(table, n, p);
-    if kind == 2 {
-        if left == node {
-            return Fit::By(Rule::Seven(p));
+    let p = tree.parent(node);
+    let left = tree.left(p);
+    let right = tree.right(p);
+    match tree.kind(p)? {
+        Kind::Abstraction if left == node => Some(Rule::Seven(p)),
+        Kind::Application if left == node => {
+            let top = top_word(tape, session.tape_len)?;
+            if top == 0 {
+                Some(Rule::Five(p))
+            } else {
+                Some(Rule::Six(right))
+            }
         }
-        return Fit::Unfit;
-    }
-    if kind != 3 {
-        return Fit::Unfit;
-    }
-    if left != node {
-        if right == node {
-            return Fit::By(Rule::Eight(left));
-        }
-        return Fit::Unfit;
-    }
-    if m == 0 {
-        return Fit::Unfit;
-    }
-    let top = tape[m - 1];
-    if top == 0 {
-        Fit::By(Rule::Five(p))
-    } else {
-        Fit::By(Rule::Six(right))
+        Kind::Application if right == node => Some(Rule::Eight(left)),
+        _ => None,
     }
 }
 
-// The rule that fits.
-pub(crate) fn chosen(table: &[u16], n: u32, session: Session, tape: &[u32]) -> Fit
+// The rule that fits, if one does.
+pub(crate) fn chosen(tree: &Tree<'_>, session: Session, tape: &[u32]) -> Option<Rule>
     requires { session.tape_len ≤ length tape.now }
-    ensures { Chooses table.now n session tape.now result }
+    ensures { Chooses tree.now.words tree.now.n session tape.now result }
 {
-    let dir = session.dir;
-    match dir {
-        Dir::Down => chosen_down(table, n, session, tape),
-        Dir::Up => chosen_up(table, n, session, tape),
+    match session.dir {
+        Dir::Down => chosen_down(tree, session, tape),
+        Dir::Up => chosen_up(tree, session, tape),
     }
 }

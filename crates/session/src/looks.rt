@@ -1,16 +1,17 @@
 // A look: what forward by a count would give, with every word left as it was (document 02, change 10).
-ghost use Rattle.std.specs.Prelude.{◌≡◌, List, ℕ};
-ghost use Rattle.calls.specs.Looks.{refused_look, look_of};
+ghost use Rattle.std.specs.Prelude.{◌≡◌};
+ghost use Rattle.calls.specs.Looks.{look_of};
 ghost use Rattle.session.specs.Types.{look_meant, lent};
 ghost use Rattle.session.specs.Steps.{Ready};
 ghost use Rattle.session.specs.Looks.{told_from};
 
 use crate::winding::{Way, wind};
 use crate::{Outcome, Session, Stop};
+use term::Tree;
 
 // What a look answers: the steps, the stop, the peak and the words carried that forward would give, and the position and the count that it looked from. (It is declared here and not
 // beside the function `look`, for Rattle refuses two names in one module that differ in the case of a letter alone.)
-#[derive(Clone, Copy)]
+#[derive(Clone, Copy, Debug, PartialEq, Eq)]
 pub struct Look {
     pub steps: u32,
     pub stop: Stop,
@@ -20,50 +21,33 @@ pub struct Look {
     pub count: u32,
 }
 
-// A number instead of a stop, and 0 for every other number.
-pub(crate) fn refused_look(number: u32) -> Look
-    ensures { (ls ts : List ℕ) → look_meant result ls ts ≡ refused_look number ls ts }
-{
-    Look {
-        steps: 0,
-        stop: Stop::Refused(number),
-        peak: 0,
-        carried: 0,
-        position: 0,
-        count: 0,
-    }
-}
-
 // What a walk came to, with the position and the count that it was looked at from.
 fn told(came: Outcome, position: u32, count: u32) -> Look
     ensures { result ≡ told_from came position count }
 {
-    let stop = came.stop;
     Look {
         steps: came.steps,
-        stop: stop,
+        stop: came.stop,
         peak: came.peak,
         carried: came.carried,
-        position: position,
-        count: count,
+        position,
+        count,
     }
 }
 
 // Forward by the count, and back again by the steps made, which gives back every word: no copy of the slices is needed.
 pub(crate) fn look_ahead(
-    table: &[u16],
-    n: u32,
+    tree: &Tree<'_>,
     session: Session,
     log: &mut [u32],
     tape: &mut [u32],
     count: u32,
 ) -> Look
-    requires { Ready table.now n session log.old tape.old }
-    ensures { look_meant result log.new tape.new
-        ≡ look_of (lent table.now n session log.old tape.old) count }
+    requires { Ready tree.now.words tree.now.n session log.old tape.old }
+    ensures { look_meant (Ok result) log.new tape.new
+        ≡ look_of (lent tree.now.words tree.now.n session log.old tape.old) count }
 {
-    let there = wind(table, n, session, log, tape, Way::Forward, count);
-    let last = there.session;
-    let _home = wind(table, n, last, log, tape, Way::Back, there.steps);
+    let there = wind(tree, session, log, tape, Way::Forward, count);
+    let _home = wind(tree, there.session, log, tape, Way::Back, there.steps);
     told(there, session.position, count)
 }

@@ -1,60 +1,48 @@
 // Where the top entry of a list lies in its slice: the part that `top` returns.
 ghost use Rattle.std.specs.Prelude.{◌≡◌, ◌≤◌};
-ghost use Rattle.term.specs.Table.{table_in};
+ghost use Rattle.term.specs.Tree.{tree_table};
 ghost use Rattle.calls.specs.Top.{top_of};
 ghost use Rattle.session.specs.Types.{lent, which_meant};
 ghost use Rattle.session.specs.Extent.{ListIn};
-ghost use Rattle.session.specs.Part.{item_span, no_place, place_in, placed};
+ghost use Rattle.session.specs.Part.{item_span, place_meant, place_in, placed};
 
-use crate::check::call_number;
+use crate::check::test_call;
 use crate::extent::span;
 use crate::{Session, Which};
+use term::{Refusal, Tree};
 
-// The index of a part's first word and how many words it has; or the number that refuses it.
+// The index of a part's first word, and how many words it has.
 #[derive(Clone, Copy)]
-pub(crate) struct PartPlace {
+pub(crate) struct Place {
     pub(crate) offset: usize,
     pub(crate) size: usize,
-    pub(crate) refusal: u32,
 }
 
-// A number instead of a place.
-fn no_place(number: u32) -> PartPlace
-    ensures { result ≡ no_place number }
-{
-    PartPlace {
-        offset: 0,
-        size: 0,
-        refusal: number,
-    }
-}
-
-// How many words are those of what is on top of a list of `len` words: a bullet has one.
-fn item_size(table: &[u16], n: u32, words: &[u32], len: usize) -> usize
+// How many words are those of what is on top of a list of `len` words: a bullet has one. (Slice and length are two parameters, as the definition `ListIn` has them.)
+fn item_size(tree: &Tree<'_>, words: &[u32], len: usize) -> usize
     requires { (1 ≤ len) × ListIn words.now len }
-    ensures { (result ≡ item_span (table_in table.now n) words.now len) × (result ≤ len) }
+    ensures { (result ≡ item_span (tree_table tree.now) words.now len) × (result ≤ len) }
 {
     if words[len - 1] == 0 {
         return 1;
     }
-    span(table, n, words, len, 1)
+    span(tree, words, len, 1)
 }
 
 // Where they lie, below the end of the list; 10 where it has no word.
-fn place_in(table: &[u16], n: u32, words: &[u32], len: u32) -> PartPlace
+fn place_in(tree: &Tree<'_>, words: &[u32], len: u32) -> Result<Place, Refusal>
     requires { ListIn words.now len }
-    ensures { result ≡ place_in (table_in table.now n) words.now len }
+    ensures { place_meant result ≡ place_in (tree_table tree.now) words.now len }
 {
     if len == 0 {
-        return no_place(10);
+        return Err(Refusal::NothingOnTop);
     }
     let end = len as usize;
-    let size = item_size(table, n, words, end);
-    PartPlace {
+    let size = item_size(tree, words, end);
+    Ok(Place {
         offset: end - size,
-        size: size,
-        refusal: 0,
-    }
+        size,
+    })
 }
 
 // The same of the chosen list, on whatever is lent: 7 to 9 come first.
@@ -65,15 +53,11 @@ pub(crate) fn top_place(
     log: &[u32],
     tape: &[u32],
     which: Which,
-) -> PartPlace
-    ensures { result ≡ placed (top_of (which_meant which) (lent table.now n session log.now tape.now)) }
+) -> Result<Place, Refusal>
+    ensures { place_meant result ≡ placed (top_of (which_meant which) (lent table.now n session log.now tape.now)) }
 {
-    let number = call_number(table, n, session, log, tape);
-    if number != 0 {
-        return no_place(number);
-    }
-    match which {
-        Which::Log => place_in(table, n, log, session.log_len),
-        Which::Tape => place_in(table, n, tape, session.tape_len),
-    }
+    let tree = test_call(table, n, session, log, tape)?;
+    let words = which.choose(log, tape);
+    let len = which.choose(session.log_len, session.tape_len);
+    place_in(&tree, words, len)
 }

@@ -7,6 +7,7 @@ ghost use Rattle.session.specs.Weight.{weight_of, Weighable, bullets_after, HasC
 
 use crate::Session;
 use crate::choice::Rule;
+use term::Tree;
 
 // X, how many binary digits n has: those of a word but for its leading zeros.
 fn digits(n: u32) -> u32
@@ -20,15 +21,7 @@ pub(crate) fn bullets_in(words: &[u32]) -> u32
     requires { length words.now ≤ longest }
     ensures { result ≡ zero_words words.now }
 {
-    let mut bullets: u32 = 0;
-    let mut i: usize = 0;
-    while i < words.len() {
-        if words[i] == 0 {
-            bullets += 1;
-        }
-        i += 1;
-    }
-    bullets
+    words.iter().filter(|word| **word == 0).count() as u32
 }
 
 // How many there are after a step: rules 1 and 7 put one onto the tape, and rules 2 and 5 take one off.
@@ -37,22 +30,17 @@ pub(crate) fn bullets_after(rule: Rule, bullets: u32) -> u32
     ensures { result ≡ bullets_after rule bullets }
 {
     match rule {
-        Rule::One(_) => bullets + 1,
-        Rule::Two(_) => bullets - 1,
-        Rule::Three(_) => bullets,
-        Rule::Four(_) => bullets,
-        Rule::Five(_) => bullets - 1,
-        Rule::Six(_) => bullets,
-        Rule::Seven(_) => bullets + 1,
-        Rule::Eight(_) => bullets,
+        Rule::One(_) | Rule::Seven(_) => bullets + 1,
+        Rule::Two(_) | Rule::Five(_) => bullets - 1,
+        Rule::Three(_) | Rule::Four(_) | Rule::Six(_) | Rule::Eight(_) => bullets,
     }
 }
 
 // What a state with this session and so many bullets weighs: every other word of log and tape is a logged position's.
-pub(crate) fn weight(n: u32, session: Session, bullets: u32) -> u32
-    requires { Weighable n session bullets }
-    ensures { result ≡ weight_of n session bullets }
+pub(crate) fn weight(tree: &Tree<'_>, session: Session, bullets: u32) -> u32
+    requires { Weighable tree.now.n session bullets }
+    ensures { result ≡ weight_of tree.now.n session bullets }
 {
     let positions = session.log_len + session.tape_len - bullets;
-    bullets + digits(n) * positions
+    bullets + digits(tree.n()) * positions
 }

@@ -10,80 +10,58 @@ ghost use Rattle.session.specs.Passes.{turned_session, facing_session, HasNext, 
 ghost use Rattle.session.specs.Visits.{Seeks};
 ghost use Rattle.session.specs.Weight.{Weighable};
 
-use crate::choice::{Fit, Rule, chosen};
-use crate::rules::{Arrival, Stepped, step};
-use crate::visits::{same_dir, stands_on};
+use crate::choice::{Rule, chosen};
+use crate::rules::{Arrival, step};
+use crate::visits::stands_on;
 use crate::weight::{bullets_after, bullets_in, weight};
 use crate::{Dir, Outcome, Session, Stop};
+use term::{Kind, Tree};
 
-// Which way a call goes.
+// Which way a call goes. A value, and no function handed in: the contracts speak of it (`way_meant`).
 #[derive(Clone, Copy)]
 pub(crate) enum Way {
     Forward,
     Back,
 }
 
-// What comes before a step: its stop, or the rule that the step is made by and the turns after it.
+// One pass of the loop: the session after a step, the rule that it was made by and how many words it carried.
 #[derive(Clone, Copy)]
-pub(crate) enum Before {
-    Ends(Stop),
-    Makes(Rule, u32),
+pub(crate) struct Passed {
+    pub(crate) session: Session,
+    pub(crate) rule: Rule,
+    pub(crate) carried: u32,
 }
 
-// One pass of the loop: on with the session after a step, the rule that it was made by and how many words it carried; or halted.
-#[derive(Clone, Copy)]
-pub(crate) enum Pass {
-    On(Session, Rule, u32),
-    Halted(Stop),
-}
-
-fn turned_dir(d: Dir) -> Dir
-    ensures { dir_meant result ≡ other_dir (dir_meant d) }
-{
-    match d {
-        Dir::Down => Dir::Up,
-        Dir::Up => Dir::Down,
+impl Dir {
+    fn turned(self) -> Dir
+        ensures { dir_meant result ≡ other_dir (dir_meant self) }
+    {
+        match self {
+            Dir::Down => Dir::Up,
+            Dir::Up => Dir::Down,
+        }
     }
 }
 
-// The session with its direction turned.
-fn turned_session(session: Session) -> Session
-    ensures { session_meant result ≡ turned_session (session_meant session) }
-{
-    let d = session.dir;
-    let e = turned_dir(d);
-    Session {
-        node: session.node,
-        dir: e,
-        position: session.position,
-        log_len: session.log_len,
-        tape_len: session.tape_len,
-        turns: session.turns,
+impl Session {
+    // The session with its direction turned.
+    fn turned(self) -> Session
+        ensures { session_meant result ≡ turned_session (session_meant self) }
+    {
+        Session {
+            dir: self.dir.turned(),
+            ..self
+        }
     }
-}
 
-// What a step is made from. A step back is: turn the direction, make one step, turn it again.
-fn facing_session(session: Session, way: Way) -> Session
-    ensures { session_meant result ≡ facing_session (way_meant way) (session_meant session) }
-{
-    match way {
-        Way::Forward => session,
-        Way::Back => turned_session(session),
-    }
-}
-
-// The session where a step leads.
-fn session_at(to: Arrival, dir: Dir, position: u32, turns: u32) -> Session
-    ensures { result
-        ≡ record { node = to.node; dir = dir; position = position; log_len = to.log_len; tape_len = to.tape_len; turns = turns } }
-{
-    Session {
-        node: to.node,
-        dir: dir,
-        position: position,
-        log_len: to.log_len,
-        tape_len: to.tape_len,
-        turns: turns,
+    // What a step is made from. A step back is: turn the direction, make one step, turn it again.
+    fn facing(self, way: Way) -> Session
+        ensures { session_meant result ≡ facing_session (way_meant way) (session_meant self) }
+    {
+        match way {
+            Way::Forward => self,
+            Way::Back => self.turned(),
+        }
     }
 }
 
@@ -92,39 +70,36 @@ fn after_step(session: Session, to: Arrival, way: Way, turns: u32) -> Session
     requires { HasNext (way_meant way) session.position }
     ensures { session_meant result ≡ session_after (way_meant way) turns (session_meant (arrived_at session.position session.turns to)) }
 {
-    let dir = to.dir;
-    match way {
-        Way::Forward => session_at(to, dir, session.position + 1, turns),
-        Way::Back => {
-            let again = turned_dir(dir);
-            session_at(to, again, session.position - 1, turns)
-        }
+    let (dir, position) = match way {
+        Way::Forward => (to.dir, session.position + 1),
+        Way::Back => (to.dir.turned(), session.position - 1),
+    };
+    Session {
+        node: to.node,
+        dir,
+        position,
+        log_len: to.log_len,
+        tape_len: to.tape_len,
+        turns,
     }
 }
 
 // Whether the token stands at the answer: down at an abstraction with an empty tape.
-fn is_answer(table: &[u16], n: u32, session: Session) -> bool
-    ensures { TellsAnswer table.now n session result }
+fn is_answer(tree: &Tree<'_>, session: Session) -> bool
+    ensures { TellsAnswer tree.now.words tree.now.n session result }
 {
-    let dir = session.dir;
-    match dir {
-        Dir::Down => {
-            if session.tape_len == 0 {
-                term::kind(table, n, session.node) == 2
-            } else {
-                false
-            }
-        }
-        Dir::Up => false,
+    match session.dir {
+        Dir::Down if session.tape_len == 0 => { tree.kind(session.node) == Some(Kind::Abstraction) }
+        _ => false,
     }
 }
 
 // Whether a walk has come to its end: forward to the answer, back to the start.
-fn is_end(table: &[u16], n: u32, session: Session, way: Way) -> bool
-    ensures { TellsEnd table.now n session (way_meant way) result }
+fn is_end(tree: &Tree<'_>, session: Session, way: Way) -> bool
+    ensures { TellsEnd tree.now.words tree.now.n session (way_meant way) result }
 {
     match way {
-        Way::Forward => is_answer(table, n, session),
+        Way::Forward => is_answer(tree, session),
         Way::Back => session.position == 0,
     }
 }
@@ -144,7 +119,7 @@ fn is_far(session: Session, way: Way) -> bool
     ensures { result ≡ is_far (way_meant way) session.position }
 {
     match way {
-        Way::Forward => session.position == 0xffff_ffff,
+        Way::Forward => session.position == u32::MAX,
         Way::Back => false,
     }
 }
@@ -154,14 +129,8 @@ fn rule_dir(rule: Rule) -> Dir
     ensures { dir_meant result ≡ rule_dir rule }
 {
     match rule {
-        Rule::One(_) => Dir::Down,
-        Rule::Two(_) => Dir::Down,
-        Rule::Three(_) => Dir::Up,
-        Rule::Four(_) => Dir::Up,
-        Rule::Five(_) => Dir::Up,
-        Rule::Six(_) => Dir::Down,
-        Rule::Seven(_) => Dir::Up,
-        Rule::Eight(_) => Dir::Down,
+        Rule::One(_) | Rule::Two(_) | Rule::Six(_) | Rule::Eight(_) => Dir::Down,
+        Rule::Three(_) | Rule::Four(_) | Rule::Five(_) | Rule::Seven(_) => Dir::Up,
     }
 }
 
@@ -169,138 +138,109 @@ fn rule_dir(rule: Rule) -> Dir
 fn turn_between(from: Dir, to: Dir) -> u32
     ensures { result ≡ turn_between (dir_meant from) (dir_meant to) }
 {
-    if same_dir(from, to) { 0 } else { 1 }
+    u32::from(from != to)
 }
 
-// What comes before a step by a rule that fits, which has so many turns: forward they are added, and back they are taken off, where that does not leave turns below 0, or above the
-// new position.
-fn with_turns(session: Session, way: Way, rule: Rule, turn: u32) -> Before
+// The turns after a step that has so many: forward they are added, and back they are taken off, where that does not leave turns below 0, or above the
+// new position; it is a jam there.
+fn with_turns(session: Session, way: Way, turn: u32) -> Result<u32, Stop>
     requires { CanTurn (way_meant way) session turn }
-    ensures { result ≡ turns_left (way_meant way) session rule turn }
+    ensures { result ≡ turns_left (way_meant way) session turn }
 {
     match way {
-        Way::Forward => Before::Makes(rule, session.turns + turn),
+        Way::Forward => Ok(session.turns + turn),
         Way::Back => {
             if session.turns < turn {
-                return Before::Ends(Stop::Jam);
+                return Err(Stop::Jam);
             }
             let left = session.turns - turn;
             if left < session.position {
-                Before::Makes(rule, left)
+                Ok(left)
             } else {
-                Before::Ends(Stop::Jam)
+                Err(Stop::Jam)
             }
         }
     }
 }
 
-// What ends a walk before a step, the count not used up, but for a full slice, which the step finds. The tests are in the order of document 01; far is said forward alone, and
-// the jam of the turns back alone, so that these two may be asked in either order. The rule is chosen in one place
+// The rule that a step is made by and the turns after it; or what ends a walk before it, the count not used up, but for a full slice, which the step finds. The tests are in the
+// order of document 01; far is said forward alone, and the jam of the turns back alone, so that these two may be asked in either order. The rule is chosen in one place
 // for both ways, so that the compiler puts the choice into the loop.
-fn before_step(table: &[u16], n: u32, session: Session, tape: &[u32], way: Way) -> Before
+fn before_step(
+    tree: &Tree<'_>,
+    session: Session,
+    tape: &[u32],
+    way: Way,
+) -> Result<(Rule, u32), Stop>
     requires { (session.tape_len ≤ length tape.now) × (session.turns ≤ session.position) }
-    ensures { TellsBefore table.now n session tape.now (way_meant way) result }
+    ensures { TellsBefore tree.now.words tree.now.n session tape.now (way_meant way) result }
 {
-    if is_end(table, n, session, way) {
-        let stop = end_stop(session, way);
-        return Before::Ends(stop);
+    if is_end(tree, session, way) {
+        return Err(end_stop(session, way));
     }
-    let about = facing_session(session, way);
-    let fit = chosen(table, n, about, tape);
-    match fit {
-        Fit::Unfit => Before::Ends(Stop::Jam),
-        Fit::By(rule) => {
-            if is_far(session, way) {
-                Before::Ends(Stop::Far)
-            } else {
-                let from = about.dir;
-                let turn = turn_between(from, rule_dir(rule));
-                with_turns(session, way, rule, turn)
-            }
-        }
+    let about = session.facing(way);
+    let rule = chosen(tree, about, tape).ok_or(Stop::Jam)?;
+    if is_far(session, way) {
+        return Err(Stop::Far);
     }
+    let from = about.dir;
+    let turn = turn_between(from, rule_dir(rule));
+    let turns = with_turns(session, way, turn)?;
+    Ok((rule, turns))
 }
 
-// One pass, the count not used up.
+// One pass, the count not used up; or the stop. Log and tape are two parameters here and everywhere: in a struct of two `&mut` slices a callee might put others, and each contract would
+// have to say that it did not; what only reads them takes them as its caller has them.
 fn one_pass(
-    table: &[u16],
-    n: u32,
+    tree: &Tree<'_>,
     session: Session,
     log: &mut [u32],
     tape: &mut [u32],
     way: Way,
-) -> Pass
-    requires { Ready table.now n session log.old tape.old }
-    ensures { Passes table.now n session log.old tape.old way result log.new tape.new }
+) -> Result<Passed, Stop>
+    requires { Ready tree.now.words tree.now.n session log.old tape.old }
+    ensures { Passes tree.now.words tree.now.n session log.old tape.old way result log.new tape.new }
 {
-    let told = before_step(table, n, session, &tape[..], way);
-    match told {
-        Before::Ends(stop) => Pass::Halted(stop),
-        Before::Makes(rule, turns) => {
-            let about = facing_session(session, way);
-            let stepped = step(table, n, about, log, tape, rule);
-            match stepped {
-                Stepped::Made(to) => {
-                    let next = after_step(session, to, way, turns);
-                    Pass::On(next, rule, to.carried)
-                }
-                Stepped::LogFull => Pass::Halted(Stop::LogFull),
-                Stepped::TapeFull => Pass::Halted(Stop::TapeFull),
-            }
-        }
-    }
-}
-
-fn larger(a: u32, b: u32) -> u32
-    ensures { result ≡ max a b }
-{
-    if a < b { b } else { a }
+    let (rule, turns) = before_step(tree, session, &tape[..], way)?;
+    let about = session.facing(way);
+    let to = step(tree, about, log, tape, rule)?;
+    let next = after_step(session, to, way, turns);
+    Ok(Passed {
+        session: next,
+        rule,
+        carried: to.carried,
+    })
 }
 
 // The outcome of no step, with so many bullets on the tape.
-fn begun(n: u32, session: Session, bullets: u32) -> Outcome
-    requires { Weighable n session bullets }
-    ensures { result ≡ begun_at n session bullets }
+fn begun(tree: &Tree<'_>, session: Session, bullets: u32) -> Outcome
+    requires { Weighable tree.now.n session bullets }
+    ensures { result ≡ begun_at tree.now.n session bullets }
 {
-    let peak = weight(n, session, bullets);
+    let peak = weight(tree, session, bullets);
     Outcome {
-        session: session,
+        session,
         steps: 0,
         stop: Stop::Spent,
-        peak: peak,
+        peak,
         carried: 0,
     }
 }
 
-fn one_more(steps: u32) -> u32
-    requires { steps < 4294967295 }
-    ensures { result ≡ steps + 1 }
+// The outcome with one step more, which carried so many words, to so many bullets on the tape. A step carries no more than a slice holds, so that the sum fits.
+fn lengthened(run: Outcome, tree: &Tree<'_>, to: Session, bullets: u32, words: u32) -> Outcome
+    requires { Weighable tree.now.n to bullets × (run.steps < 4294967295) × (run.carried ≤ longest * run.steps) × (words ≤ longest) }
+    ensures { result ≡ lengthened_to run tree.now.n to bullets words }
 {
-    steps + 1
-}
-
-// The words carried, and those of one step more: a step carries no more than a slice holds, so that the sum fits.
-fn with_words(carried: u64, words: u32) -> u64
-    requires { (carried ≤ longest * 4294967295) × (words ≤ longest) }
-    ensures { result ≡ carried + words }
-{
-    carried + words as u64
-}
-
-// The outcome with one step more, which carried so many words, to so many bullets on the tape.
-fn lengthened(run: Outcome, n: u32, to: Session, bullets: u32, words: u32) -> Outcome
-    requires { Weighable n to bullets × (run.steps < 4294967295) × (run.carried ≤ longest * run.steps) × (words ≤ longest) }
-    ensures { result ≡ lengthened_to run n to bullets words }
-{
-    let steps = one_more(run.steps);
-    let peak = larger(run.peak, weight(n, to, bullets));
-    let carried = with_words(run.carried, words);
+    let steps = run.steps + 1;
+    let peak = run.peak.max(weight(tree, to, bullets));
+    let carried = run.carried + u64::from(words);
     Outcome {
         session: to,
-        steps: steps,
+        steps,
         stop: Stop::Spent,
-        peak: peak,
-        carried: carried,
+        peak,
+        carried,
     }
 }
 
@@ -308,21 +248,13 @@ fn lengthened(run: Outcome, n: u32, to: Session, bullets: u32, words: u32) -> Ou
 pub(crate) fn halted(run: Outcome, stop: Stop) -> Outcome
     ensures { result ≡ halted_by run stop }
 {
-    let session = run.session;
-    Outcome {
-        session: session,
-        steps: run.steps,
-        stop: stop,
-        peak: run.peak,
-        carried: run.carried,
-    }
+    Outcome { stop, ..run }
 }
 
 // At most `count` passes, the peak over the states stood in and the words carried; found as soon as a step leads to the node in the direction. Where the token stands at first is not looked at. The bullets
 // are counted once, and then kept count of.
 pub(crate) fn seek(
-    table: &[u16],
-    n: u32,
+    tree: &Tree<'_>,
     session: Session,
     log: &mut [u32],
     tape: &mut [u32],
@@ -331,22 +263,20 @@ pub(crate) fn seek(
     node: u32,
     dir: Dir,
 ) -> Outcome
-    requires { Ready table.now n session log.old tape.old }
-    ensures { Seeks table.now n session log.old tape.old way count (spot node (dir_meant dir)) result
+    requires { Ready tree.now.words tree.now.n session log.old tape.old }
+    ensures { Seeks tree.now.words tree.now.n session log.old tape.old way count (spot node (dir_meant dir)) result
         log.new tape.new }
 {
     let mut bullets = bullets_in(&tape[..session.tape_len as usize]);
-    let mut run = begun(n, session, bullets);
-    while run.steps < count {
+    let mut run = begun(tree, session, bullets);
+    for _step in 0..count {
         let here = run.session;
-        let pass = one_pass(table, n, here, log, tape, way);
-        match pass {
-            Pass::Halted(stop) => {
-                return halted(run, stop);
-            }
-            Pass::On(to, rule, words) => {
-                bullets = bullets_after(rule, bullets);
-                run = lengthened(run, n, to, bullets, words);
+        match one_pass(tree, here, log, tape, way) {
+            Err(stop) => return halted(run, stop),
+            Ok(pass) => {
+                let to = pass.session;
+                bullets = bullets_after(pass.rule, bullets);
+                run = lengthened(run, tree, to, bullets, pass.carried);
                 if stands_on(to, node, dir) {
                     return halted(run, Stop::Found);
                 }
@@ -358,17 +288,16 @@ pub(crate) fn seek(
 
 // At most `count` passes: a search for node 0, on which the token never stands.
 pub(crate) fn wind(
-    table: &[u16],
-    n: u32,
+    tree: &Tree<'_>,
     session: Session,
     log: &mut [u32],
     tape: &mut [u32],
     way: Way,
     count: u32,
 ) -> Outcome
-    requires { Ready table.now n session log.old tape.old }
-    ensures { Winds table.now n session log.old tape.old way count result
+    requires { Ready tree.now.words tree.now.n session log.old tape.old }
+    ensures { Winds tree.now.words tree.now.n session log.old tape.old way count result
         log.new tape.new }
 {
-    seek(table, n, session, log, tape, way, count, 0, Dir::Down)
+    seek(tree, session, log, tape, way, count, 0, Dir::Down)
 }

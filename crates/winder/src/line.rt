@@ -1,108 +1,82 @@
-// Lines of output, built in a lent buffer. Each function puts what it is told at index `at` and answers the index after it; what does not fit is left out.
+// Lines of output, which wait in a buffer until they are written out.
 ghost use Rattle.winder.specs.Lines.{IsPrefixLen};
 
-use itoa::Buffer;
-use session::{Dir, Session, Stop};
+use session::{Dir, Session};
+use std::fmt::Write;
+use std::{fmt, io};
 
-fn put(out: &mut [u8], at: usize, b: u8) -> usize
-    ensures { IsPrefixLen result out.new }
-{
-    if at < out.len() {
-        out[at] = b;
-        at + 1
-    } else {
-        out.len()
+// How many bytes wait before they are written out; a state's line takes at most 10,300.
+const WAITING: usize = 50000;
+
+// The bytes up to `at` wait, in a buffer of their own, for the programs have no heap. What does not fit is left out.
+#[derive(Drop)]
+pub(crate) struct Lines {
+    bytes: [u8; 65536],
+    at: usize,
+    ghost fits: { IsPrefixLen at bytes },
+}
+
+impl fmt::Write for Lines {
+    fn write_str(&mut self, s: &str) -> fmt::Result {
+        // Byte by byte: of an array into a part of which bytes are copied the check does not find that `fits` holds still.
+        for b in s.as_bytes() {
+            if self.at < 65536 {
+                self.bytes[self.at] = *b;
+                self.at += 1;
+            }
+        }
+        Ok(())
     }
 }
 
-fn put_bytes(out: &mut [u8], at: usize, s: &[u8]) -> usize {
-    let mut end = at;
-    let mut i = 0;
-    while i < s.len() {
-        end = put(out, end, s[i]);
-        i += 1;
-    }
-    end
-}
-
-fn put_number(out: &mut [u8], at: usize, n: u32) -> usize {
-    let mut digits = Buffer::new();
-    put_bytes(out, at, digits.format(n).as_bytes())
-}
-
-// The first `len` words of a slice, from the top, a blank before each.
-fn put_words(out: &mut [u8], at: usize, words: &[u32], len: u32) -> usize {
-    let mut end = at;
-    let mut i = len as usize;
-    while 0 < i {
-        i -= 1;
-        if i < words.len() {
-            end = put(out, end, b' ');
-            end = put_number(out, end, words[i]);
+impl Lines {
+    pub(crate) fn new() -> Lines {
+        Lines {
+            bytes: [0; 65536],
+            at: 0,
         }
     }
-    end
-}
 
-fn dir_letter(dir: Dir) -> u8 {
-    match dir {
-        Dir::Down => b'd',
-        Dir::Up => b'u',
+    // A state: its position, node, and d or u, L and the log, T and the tape, both from the top, one blank between.
+    pub(crate) fn put_state(&mut self, s: Session, log: &[u32], tape: &[u32]) {
+        let dir = match s.dir {
+            Dir::Down => 'd',
+            Dir::Up => 'u',
+        };
+        let _place = write!(self, "{} {} {dir} L", s.position, s.node);
+        self.put_words(log, s.log_len);
+        let _label = write!(self, " T");
+        self.put_words(tape, s.tape_len);
+        let _end = writeln!(self);
     }
-}
 
-// Position, node, and d or u, a blank after each.
-fn put_place(out: &mut [u8], at: usize, s: Session) -> usize {
-    let dir = s.dir;
-    let position = put_number(out, at, s.position);
-    let first = put(out, position, b' ');
-    let node = put_number(out, first, s.node);
-    let second = put(out, node, b' ');
-    let third = put(out, second, dir_letter(dir));
-    put(out, third, b' ')
-}
-
-// A state: its place, L and the log, T and the tape, both from the top, one blank between.
-pub(crate) fn put_state(out: &mut [u8], at: usize, s: Session, log: &[u32], tape: &[u32]) -> usize
-    ensures { IsPrefixLen result out.new }
-{
-    let place = put_place(out, at, s);
-    let l = put(out, place, b'L');
-    let over = put_words(out, l, log, s.log_len);
-    let t = put_bytes(out, over, b" T");
-    let end = put_words(out, t, tape, s.tape_len);
-    put(out, end, b'\n')
-}
-
-// The last line: the stop's name and, for an answer, its node; a refusal's number.
-pub(crate) fn put_stop(out: &mut [u8], at: usize, x: Stop) -> usize
-    ensures { IsPrefixLen result out.new }
-{
-    match x {
-        Stop::Spent => put_named(out, at, b"spent"),
-        Stop::Answer(i) => put_numbered(out, at, b"answer ", i),
-        Stop::Jam => put_named(out, at, b"jam"),
-        Stop::Far => put_named(out, at, b"far"),
-        Stop::Start => put_named(out, at, b"start"),
-        Stop::LogFull => put_named(out, at, b"log full"),
-        Stop::TapeFull => put_named(out, at, b"tape full"),
-        Stop::Refused(k) => put_numbered(out, at, b"refused ", k),
-        Stop::Found => put_named(out, at, b"found"),
-        Stop::None => put_named(out, at, b"none"),
+    // The first `len` words of a slice, from the top, a blank before each.
+    fn put_words(&mut self, words: &[u32], len: u32) {
+        let top = words.len().min(len as usize);
+        for word in words[..top].iter().rev() {
+            let _word = write!(self, " {word}");
+        }
     }
-}
 
-fn put_named(out: &mut [u8], at: usize, name: &[u8]) -> usize
-    ensures { IsPrefixLen result out.new }
-{
-    let end = put_bytes(out, at, name);
-    put(out, end, b'\n')
-}
+    // Writes out all that waits.
+    fn write_out(&mut self, rt: &impl Print) -> io::Result<()> {
+        rt.write_all(&self.bytes[..self.at])?;
+        self.at = 0;
+        Ok(())
+    }
 
-fn put_numbered(out: &mut [u8], at: usize, name: &[u8], n: u32) -> usize
-    ensures { IsPrefixLen result out.new }
-{
-    let word = put_bytes(out, at, name);
-    let end = put_number(out, word, n);
-    put(out, end, b'\n')
+    // Writes out what waits, if it is much.
+    pub(crate) fn make_room(&mut self, rt: &impl Print) -> io::Result<()> {
+        if WAITING < self.at {
+            self.write_out(rt)
+        } else {
+            Ok(())
+        }
+    }
+
+    // The last line, and everything that still waits.
+    pub(crate) fn end<D: fmt::Display>(&mut self, rt: &impl Print, last: &D) -> io::Result<()> {
+        let _last = writeln!(self, "{last}");
+        self.write_out(rt)
+    }
 }

@@ -1,5 +1,6 @@
 -- The laws that the proofs of the writer's functions cite.
 pub mod Types
+pub mod KindWords
 pub mod Putting
 pub mod Parts
 pub mod PartList

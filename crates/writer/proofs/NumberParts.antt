@@ -8,6 +8,7 @@ use lib.ListN.{length, get_or, get_or-append}
 use lib.Seq.{get_or-append-add}
 use lib.Dec.{eqb, ltb}
 use borrow.Author.Tests.{ne_eqb, ltb-true, ltb-false}
+use Rattle.std.specs.Int.{from_bool}
 use Rattle.decimal.specs.Decimal.{decimal}
 use Rattle.term.specs.Term.{Term, var, lam, app, size, ClosedUnder}
 use Rattle.term.specs.Table.{Table}
@@ -20,13 +21,18 @@ use Rattle.writer.specs.Putting.{Put}
 use Rattle.writer.specs.NumberParts.{depth_under, node_part}
 use Rattle.writer.proofs.PartList.{parts_of, parts_count}
 
+pub bit_small : (b : Bool) → from_bool b ≤ 1
+bit_small true = omega arith
+bit_small false = omega arith
+
 -- A node's depth, by its parent, node p; and its part, by its kind.
 module _ (T : Table) (D : ℕ → ℕ) (i : ℕ) where
-  pub depth_inner : (p : ℕ) → p ≡ T.parent i → T.kind p ≡ 2 → D p + 1 ≡ depth_under T D i
-  depth_inner p e k = subst (λ m. D p + 1 ≡ cond (eqb (T.kind m) 2) (D m + 1) (D m)) e (rw k)
-
-  pub depth_same : (p : ℕ) → p ≡ T.parent i → (T.kind p ≡ 2 → ⊥) → D p ≡ depth_under T D i
-  depth_same p e k = subst (λ m. D p ≡ cond (eqb (T.kind m) 2) (D m + 1) (D m)) e (rw (ne_eqb (T.kind p) 2 k))
+  pub depth_is : (p : ℕ) → p ≡ T.parent i → (b : Bool) → b ≡ eqb (T.kind p) 2 → D p + from_bool b ≡ depth_under T D i
+  depth_is p e b k = subst (λ m. D p + from_bool b ≡ cond (eqb (T.kind m) 2) (D m + 1) (D m)) e (subst (λ t. D p + from_bool b ≡ cond t (D p + 1) (D p)) k (one_more b))
+    where
+      one_more : (b : Bool) → D p + from_bool b ≡ cond b (D p + 1) (D p)
+      one_more true = refl
+      one_more false = omega arith
 
   -- its length, and that it is put where its bytes are
   pub record Part (s : List ℕ) : Type 0 where

@@ -1,5 +1,5 @@
 -- The text of a part of a table, from the texts of the parts below it, by the kind of its root.
-use mathlib.Core.Path.{◌≡◌, refl, sym, ap, ◌∙◌, subst, subst⁻¹}
+use mathlib.Core.Path.{◌≡◌, refl, sym, ap, ◌∙◌, subst⁻¹}
 use mathlib.Core.Bool.{Bool, true, false, not, false≢true}
 use mathlib.Core.List.{List, [], ◌∷◌, ◌++◌, append_assoc}
 use Prim.Native.Nat.{ℕ, suc, ◌+◌, ◌≤◌, ◌<◌}
@@ -159,27 +159,10 @@ module _ (w : List ℕ) (n i at : ℕ) where
         let a = z s.argument bs (s.argument_puttable p q f.next y.next) in
         subst⁻¹ (λ u. Put o at u r o₃) s.text_is (put_then f (put_then y a))
 
-  -- A part without brackets,
-  pub bare_puttable : (b : Bool) (t : Term) (bs : List ℕ) → b ≡ false → Puttable w n i b at t bs → Puttable w n i false at t bs
-  bare_puttable b t bs e h = subst (λ c. Puttable w n i c at t bs) e h
-
-  pub bare_put : (b : Bool) {o : List ℕ} {r : ℕ} {o' : List ℕ} → b ≡ false → PartPut w n i false at o r o' → PartPut w n i b at o r o'
-  bare_put b {o} {r} {o'} e x = subst⁻¹ (λ c. PartPut w n i c at o r o') e x
-
-  -- and one in brackets.
+  -- A part in brackets.
   pub inner_puttable : (b : Bool) (t : Term) (bs : List ℕ) (p : ℕ) → b ≡ true → Puttable w n i b at t bs → p ≡ at + 1 → Puttable w n i false p t bs
   inner_puttable true t bs p e h q = record { stood = h.stood; short = omega (arith, h.short, length-append (text_at t bs i) (closing ∷ [])) }
   inner_puttable false t bs p e h q = absurd (false≢true e)
-
-  pub opening_room : (b : Bool) (t : Term) (bs : List ℕ) → b ≡ true → Puttable w n i b at t bs → at < longest_text
-  opening_room true t bs e h = omega (arith, h.short)
-  opening_room false t bs e h = absurd (false≢true e)
-
-  pub closing_room : (b : Bool) {o : List ℕ} {p : ℕ} {o₁ : List ℕ} {q : ℕ} {o₂ : List ℕ} (t : Term) (bs : List ℕ) → b ≡ true → Puttable w n i b at t bs
-      → Put o at (opening ∷ []) p o₁ → PartPut w n i false p o₁ q o₂ → q < longest_text
-  closing_room true {p = p} t bs e h x y =
-      omega (arith, h.short, length-append (text_at t bs i) (closing ∷ []), x.next, (y t bs (inner_puttable true t bs p refl h x.next)).next)
-  closing_room false t bs e h x y = absurd (false≢true e)
 
   pub brackets_put : (b : Bool) {o : List ℕ} {p : ℕ} {o₁ : List ℕ} {q : ℕ} {o₂ : List ℕ} {r : ℕ} {o₃ : List ℕ} → b ≡ true
       → Put o at (opening ∷ []) p o₁ → PartPut w n i false p o₁ q o₂ → Put o₂ q (closing ∷ []) r o₃ → PartPut w n i b at o r o₃

@@ -4,10 +4,12 @@ ghost use Rattle.std.specs.Prelude.{[], ◌∷◌, ◌+◌, ◌≤◌, ◌<◌, 
 ghost use Rattle.text.specs.Written.{node_name};
 ghost use Rattle.writer.specs.Putting.{longest_text, Put, binder_text};
 
+// Bytes and index are two parameters: behind a `&mut` to a struct of them the bytes lent at first could be exchanged for others, and each contract would have to say that they were not.
 pub(crate) fn put_byte(out: &mut [u8], at: usize, b: u8) -> usize
     requires { at < longest_text }
     ensures { Put out.old at (b ∷ []) result out.new }
 {
+    // A test and an index, for a write through what `get_mut` gives is lost to the proof where the branches join.
     if at < out.len() {
         out[at] = b;
     }

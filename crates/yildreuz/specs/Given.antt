@@ -1,27 +1,11 @@
--- What the private functions promise: which call is made and with which session, and the numbers given back where it is refused.
+-- What the private functions promise: with which session a call is made, and the numbers given back where it is refused.
 use Rattle.std.specs.Prelude.{cond, List, ℕ, ltb, eqb}
 use Rattle.machine.specs.Machine.{down, up}
 use Rattle.calls.specs.Session.{Session, Outcome}
-use Rattle.calls.specs.Stops.{forward, back}
-use Rattle.calls.specs.Visits.{spot}
-use Rattle.calls.specs.Moves
-use Rattle.calls.specs.Moves.{by, go_to, back_to, forward_to, go}
-use Rattle.yildreuz.specs.declared.Move.{Move}
-use Rattle.yildreuz.specs.declared.Move.TheVariants.{Forward, Back, GoTo, BackTo, ForwardTo, Go}
 use Rattle.face.specs.declared.HostSession.{HostSession}
 use Rattle.face.specs.declared.HostOutcome.{HostOutcome}
 use Rattle.face.specs.Numbers.{session_numbers, refused_code, stop_code}
 use Rattle.face.specs.Told.{told_with}
-use Rattle.session.specs.Types.{dir_meant}
-
--- the call of documents 01 and 02 that winds
-abbrev pub move_meant : Move → Moves.Move
-move_meant (Forward c) = by forward c
-move_meant (Back c) = by back c
-move_meant (GoTo q) = go_to q
-move_meant (BackTo i d) = back_to (spot i (dir_meant d))
-move_meant (ForwardTo i d c) = forward_to (spot i (dir_meant d)) c
-move_meant (Go q c) = go q c
 
 -- Numbers without a direction are taken to stand at node 0, which no table has, so that the call itself finds 7, 8 or 9.
 abbrev pub made_with : HostSession → Session

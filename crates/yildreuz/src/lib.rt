@@ -9,12 +9,9 @@ ghost use Rattle.text.specs.Writing.{write_of, write_numbers_of};
 ghost use Rattle.calls.specs.Calls.{open_of, forward_of, back_of, go_to_of};
 ghost use Rattle.calls.specs.Visits.{back_to_of, forward_to_of};
 ghost use Rattle.calls.specs.Looks.{go_of};
-ghost use Rattle.calls.specs.Moves.{outcome_of};
-ghost use Rattle.session.specs.Types.{outcome_meant, lent};
 ghost use Rattle.kam.specs.Runs.{run_of};
 ghost use Rattle.face.specs.Numbers.{spot_in};
 ghost use Rattle.face.specs.Told.{read_told, write_told, open_told, called, look_called, top_called, run_told};
-ghost use Rattle.yildreuz.specs.Given.{move_meant};
 
 mod numbers;
 mod parts;
@@ -24,10 +21,9 @@ mod texts;
 use face::{
     HostLook, HostOpening, HostOutcome, HostPart, HostReading, HostRun, HostSession, HostWritten,
 };
-use numbers::{chosen_dir, chosen_node, given_back, look_told, made_with, session_numbers};
-use parts::{list_end, list_named, number_told, part_told, top_size};
+use numbers::{chosen_dir, chosen_node, given_back, look_told, made_with, opening_told};
+use parts::part_of;
 use runs::run_told;
-use session::{Dir, Outcome, Session};
 use texts::{reading_told, written_told};
 
 // The reader's answer, and the table slice as it leaves it; the same of the number dialect.
@@ -74,65 +70,7 @@ pub fn yildreuz_open(table: &[u16], n: u32, log: &mut [u32], tape: &mut [u32]) -
     ensures { (result, log.new, tape.new)
         ≡ open_told (open_of table.now n log.old tape.old) }
 {
-    let o = session::open(table, n, log, tape);
-    let first = o.session;
-    let session = session_numbers(first);
-    HostOpening {
-        session: session,
-        refusal: o.refusal,
-    }
-}
-
-// Which of the calls that wind, and its numbers.
-#[derive(Clone, Copy)]
-enum Move {
-    Forward(u32),
-    Back(u32),
-    GoTo(u32),
-    BackTo(u32, Dir),
-    ForwardTo(u32, Dir, u32),
-    Go(u32, u32),
-}
-
-// The call itself.
-fn call_made(
-    table: &[u16],
-    n: u32,
-    session: Session,
-    log: &mut [u32],
-    tape: &mut [u32],
-    m: Move,
-) -> Outcome
-    ensures { outcome_meant result log.new tape.new
-        ≡ outcome_of (move_meant m) (lent table.now n session log.old tape.old) }
-{
-    match m {
-        Move::Forward(count) => session::forward(table, n, session, log, tape, count),
-        Move::Back(count) => session::back(table, n, session, log, tape, count),
-        Move::GoTo(position) => session::go_to(table, n, session, log, tape, position),
-        Move::BackTo(node, dir) => session::back_to(table, n, session, log, tape, node, dir),
-        Move::ForwardTo(node, dir, count) => {
-            session::forward_to(table, n, session, log, tape, node, dir, count)
-        }
-        Move::Go(position, count) => session::go(table, n, session, log, tape, position, count),
-    }
-}
-
-// The call on the session that a host's numbers stand for, its outcome in numbers. Refused, it gives back the numbers given.
-fn call(
-    table: &[u16],
-    n: u32,
-    session: HostSession,
-    log: &mut [u32],
-    tape: &mut [u32],
-    m: Move,
-) -> HostOutcome
-    ensures { (result, log.new, tape.new)
-        ≡ called (λ g. outcome_of (move_meant m) g) table.now n session log.old tape.old }
-{
-    let s = made_with(session);
-    let o = call_made(table, n, s, log, tape, m);
-    given_back(session, o)
+    opening_told(session::open(table, n, log, tape))
 }
 
 // To a position.
@@ -147,7 +85,8 @@ pub fn yildreuz_go_to(
     ensures { (result, log.new, tape.new)
         ≡ called (λ g. go_to_of g position) table.now n session log.old tape.old }
 {
-    call(table, n, session, log, tape, Move::GoTo(position))
+    let s = made_with(session);
+    given_back(session, session::go_to(table, n, s, log, tape, position))
 }
 
 // Forward by a count.
@@ -162,7 +101,8 @@ pub fn yildreuz_forward(
     ensures { (result, log.new, tape.new)
         ≡ called (λ g. forward_of g count) table.now n session log.old tape.old }
 {
-    call(table, n, session, log, tape, Move::Forward(count))
+    let s = made_with(session);
+    given_back(session, session::forward(table, n, s, log, tape, count))
 }
 
 // Forward by a count, or to the first later position that it reaches at which the token stands on a node in a direction.
@@ -181,7 +121,11 @@ pub fn yildreuz_forward_to(
 {
     let i = chosen_node(node, direction);
     let dir = chosen_dir(direction);
-    call(table, n, session, log, tape, Move::ForwardTo(i, dir, count))
+    let s = made_with(session);
+    given_back(
+        session,
+        session::forward_to(table, n, s, log, tape, i, dir, count),
+    )
 }
 
 // Back to the last earlier position at which the token stood on a node in a direction.
@@ -199,7 +143,8 @@ pub fn yildreuz_back_to(
 {
     let i = chosen_node(node, direction);
     let dir = chosen_dir(direction);
-    call(table, n, session, log, tape, Move::BackTo(i, dir))
+    let s = made_with(session);
+    given_back(session, session::back_to(table, n, s, log, tape, i, dir))
 }
 
 // Back by a count.
@@ -214,7 +159,8 @@ pub fn yildreuz_back(
     ensures { (result, log.new, tape.new)
         ≡ called (λ g. back_of g count) table.now n session log.old tape.old }
 {
-    call(table, n, session, log, tape, Move::Back(count))
+    let s = made_with(session);
+    given_back(session, session::back(table, n, s, log, tape, count))
 }
 
 // Where the top entry lies in the lent slice. The number goes out through `refusal`.
@@ -231,12 +177,16 @@ pub fn yildreuz_top<'a>(
         ≡ top_called table.now n session log.now tape.now which }
 {
     let s = made_with(session);
-    let list = list_named(which);
-    let mut number: u32 = 0;
-    let size = top_size(table, n, s, log, tape, list, &mut number);
-    let told = number_told(which, number);
-    *refusal = told;
-    part_told(told, list_end(s, list), size)
+    match part_of(table, n, s, log, tape, which) {
+        Ok(part) => {
+            *refusal = 0;
+            part
+        }
+        Err(number) => {
+            *refusal = number.number();
+            HostPart { offset: 0, len: 0 }
+        }
+    }
 }
 
 // What forward by a count would give; every word as given.
@@ -252,8 +202,7 @@ pub fn yildreuz_look(
         ≡ look_called table.now n session log.old tape.old count }
 {
     let s = made_with(session);
-    let l = session::look(table, n, s, log, tape, count);
-    look_told(l)
+    look_told(session::look(table, n, s, log, tape, count))
 }
 
 // By the position and the count that a look handed out.
@@ -269,7 +218,11 @@ pub fn yildreuz_go(
     ensures { (result, log.new, tape.new)
         ≡ called (λ g. go_of g position count) table.now n session log.old tape.old }
 {
-    call(table, n, session, log, tape, Move::Go(position, count))
+    let s = made_with(session);
+    given_back(
+        session,
+        session::go(table, n, s, log, tape, position, count),
+    )
 }
 
 // The run's answer, and the records as it leaves them.

@@ -1,12 +1,15 @@
-// Directions, sessions, stops, outcomes and looks in numbers, and a host's numbers as a session, and as a node in a direction.
+// Directions, sessions, stops, outcomes and looks in numbers, and a host's numbers as a session, and as a node in a direction. The codes are those of C; functions, and no From or
+// TryFrom, since both types of each are those of other crates.
 ghost use Rattle.std.specs.Prelude.{◌≡◌, List, ℕ};
-ghost use Rattle.session.specs.Types.{dir_meant, session_meant, stop_meant, outcome_meant, look_meant};
+ghost use Rattle.session.specs.declared.Session.{Session};
+ghost use Rattle.session.specs.Types.{dir_meant, session_meant, stop_meant, opening_meant, outcome_meant, look_meant};
 ghost use Rattle.face.specs.Numbers.{dir_number, session_numbers, stop_code, stop_value, spot_in};
-ghost use Rattle.face.specs.Told.{look_told};
-ghost use Rattle.yildreuz.specs.Given.{made_with, kept_session, given_back};
+ghost use Rattle.face.specs.Told.{open_told, look_told};
+ghost use Rattle.yildreuz.specs.Given.{made_with, given_back};
 
-use face::{HostLook, HostOutcome, HostSession};
+use face::{HostLook, HostOpening, HostOutcome, HostSession};
 use session::{Dir, Look, Outcome, Session, Stop};
+use term::Refusal;
 
 fn dir_number(dir: Dir) -> u32
     ensures { result ≡ dir_number (dir_meant dir) }
@@ -20,10 +23,9 @@ fn dir_number(dir: Dir) -> u32
 pub(crate) fn session_numbers(s: Session) -> HostSession
     ensures { result ≡ session_numbers (session_meant s) }
 {
-    let dir = s.dir;
     HostSession {
         node: s.node,
-        direction: dir_number(dir),
+        direction: dir_number(s.dir),
         position: s.position,
         log_len: s.log_len,
         tape_len: s.tape_len,
@@ -71,68 +73,92 @@ fn stop_code(stop: Stop) -> u32
         Stop::Start => 4,
         Stop::LogFull => 5,
         Stop::TapeFull => 6,
-        Stop::Refused(_) => 7,
         Stop::Found => 8,
         Stop::None => 9,
     }
 }
 
+// No stop has a second value.
 fn stop_value(stop: Stop) -> u32
     ensures { result ≡ stop_value (stop_meant stop) }
 {
     match stop {
-        Stop::Spent => 0,
         Stop::Answer(i) => i,
-        Stop::Jam => 0,
-        Stop::Far => 0,
-        Stop::Start => 0,
-        Stop::LogFull => 0,
-        Stop::TapeFull => 0,
-        Stop::Refused(k) => k,
-        Stop::Found => 0,
-        Stop::None => 0,
+        _ => 0,
     }
 }
 
-// A refusal, whose code is 7, gives back the numbers given: those that stand for no session too.
-fn kept_session(given: HostSession, code: u32, next: HostSession) -> HostSession
-    ensures { result ≡ kept_session given code next }
+pub(crate) fn opening_told(answer: Result<Session, Refusal>) -> HostOpening
+    ensures { (ls ts : List ℕ) → (result, ls, ts) ≡ open_told (opening_meant answer ls ts) }
 {
-    if code == 7 { given } else { next }
-}
-
-// An outcome in numbers, of a call that was given these.
-pub(crate) fn given_back(given: HostSession, o: Outcome) -> HostOutcome
-    ensures { (ls ts : List ℕ) → (result, ls, ts) ≡ given_back given (outcome_meant o ls ts) }
-{
-    let stop = o.stop;
-    let last = o.session;
-    let next = session_numbers(last);
-    let code = stop_code(stop);
-    let session = kept_session(given, code, next);
-    HostOutcome {
-        session: session,
-        steps: o.steps,
-        stop: code,
-        value: stop_value(stop),
-        value2: 0,
-        peak: o.peak,
-        carried: o.carried,
+    match answer {
+        Ok(first) => HostOpening {
+            session: session_numbers(first),
+            refusal: 0,
+        },
+        Err(refusal) => HostOpening {
+            session: HostSession {
+                node: 0,
+                direction: 0,
+                position: 0,
+                log_len: 0,
+                tape_len: 0,
+                turns: 0,
+            },
+            refusal: refusal.number(),
+        },
     }
 }
 
-pub(crate) fn look_told(l: Look) -> HostLook
-    ensures { (ls ts : List ℕ) → (result, ls, ts) ≡ look_told (look_meant l ls ts) }
+// An outcome in numbers, of a call that was given these. A refusal, whose code is 7, gives them back: those that stand for no session too.
+pub(crate) fn given_back(given: HostSession, answer: Result<Outcome, Refusal>) -> HostOutcome
+    ensures { (s : Session) (ls ts : List ℕ) → (result, ls, ts) ≡ given_back given (outcome_meant s answer ls ts) }
 {
-    let stop = l.stop;
-    HostLook {
-        steps: l.steps,
-        stop: stop_code(stop),
-        value: stop_value(stop),
-        value2: 0,
-        peak: l.peak,
-        carried: l.carried,
-        position: l.position,
-        count: l.count,
+    match answer {
+        Ok(o) => HostOutcome {
+            session: session_numbers(o.session),
+            steps: o.steps,
+            stop: stop_code(o.stop),
+            value: stop_value(o.stop),
+            value2: 0,
+            peak: o.peak,
+            carried: o.carried,
+        },
+        Err(refusal) => HostOutcome {
+            session: given,
+            steps: 0,
+            stop: 7,
+            value: refusal.number(),
+            value2: 0,
+            peak: 0,
+            carried: 0,
+        },
+    }
+}
+
+pub(crate) fn look_told(answer: Result<Look, Refusal>) -> HostLook
+    ensures { (ls ts : List ℕ) → (result, ls, ts) ≡ look_told (look_meant answer ls ts) }
+{
+    match answer {
+        Ok(l) => HostLook {
+            steps: l.steps,
+            stop: stop_code(l.stop),
+            value: stop_value(l.stop),
+            value2: 0,
+            peak: l.peak,
+            carried: l.carried,
+            position: l.position,
+            count: l.count,
+        },
+        Err(refusal) => HostLook {
+            steps: 0,
+            stop: 7,
+            value: refusal.number(),
+            value2: 0,
+            peak: 0,
+            carried: 0,
+            position: 0,
+            count: 0,
+        },
     }
 }

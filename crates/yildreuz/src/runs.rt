@@ -1,11 +1,12 @@
 // What a run of Krivine's machine answers, for a host.
 ghost use Rattle.std.specs.Prelude.{◌≡◌, List, ℕ};
 ghost use Rattle.krivine.specs.Types.{halt_meant, ran_meant};
-ghost use Rattle.face.specs.Numbers.{halt_code, halt_value};
+ghost use Rattle.face.specs.Numbers.{halt_code};
 ghost use Rattle.face.specs.Told.{run_told};
 
 use face::HostRun;
 use krivine::{Halt, Run};
+use term::Refusal;
 
 fn halt_code(halt: Halt) -> u32
     ensures { result ≡ halt_code (halt_meant halt) }
@@ -14,29 +15,24 @@ fn halt_code(halt: Halt) -> u32
         Halt::Spent => 0,
         Halt::Answer => 1,
         Halt::Full => 2,
-        Halt::Refused(_) => 3,
     }
 }
 
-fn halt_value(halt: Halt) -> u32
-    ensures { result ≡ halt_value (halt_meant halt) }
+pub(crate) fn run_told(answer: Result<Run, Refusal>) -> HostRun
+    ensures { (words : List ℕ) → (result, words) ≡ run_told (ran_meant answer words) }
 {
-    match halt {
-        Halt::Spent => 0,
-        Halt::Answer => 0,
-        Halt::Full => 0,
-        Halt::Refused(k) => k,
-    }
-}
-
-pub(crate) fn run_told(r: Run) -> HostRun
-    ensures { (words : List ℕ) → (result, words) ≡ run_told (ran_meant r words) }
-{
-    let halt = r.halt;
-    HostRun {
-        node: r.node,
-        steps: r.steps,
-        halt: halt_code(halt),
-        value: halt_value(halt),
+    match answer {
+        Ok(run) => HostRun {
+            node: run.node,
+            steps: run.steps,
+            halt: halt_code(run.halt),
+            value: 0,
+        },
+        Err(refusal) => HostRun {
+            node: 0,
+            steps: 0,
+            halt: 3,
+            value: refusal.number(),
+        },
     }
 }

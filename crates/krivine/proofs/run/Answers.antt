@@ -1,30 +1,27 @@
 -- `run` refuses by the table, then by the slice, and else runs.
-use mathlib.Core.Path.{◌≡◌, sym, ◌∙◌}
-use mathlib.Core.Bool.{true}
+use mathlib.Core.Path.{refl, ◌∙◌}
+use mathlib.Core.Bool.{false≢true}
+use Rattle.std.proofs.lemmas.Bool.{false_from_ne_true}
 use Rattle.term.specs.Accepted.{accepted}
-use Rattle.term.proofs.Accepted.{accepts_only}
+use Rattle.kam.specs.Runs.{start_moment, run_from}
+use Rattle.term.specs.Table.{table_in}
 use Rattle.kam.proofs.Numbers.{run_seven, run_sixteen, run_unrefused}
 use Rattle.krivine.proofs.run.Goals as goal
-use Rattle.krivine.proofs.run.Goals.{Else-not-accepts}
 
-pub returns-then-not-accepts : goal.returns-then-not-accepts
-returns-then-not-accepts c =
+pub returns-in_default : goal.returns-in_default
+returns-in_default c =
     let a = c.args in
-    c.refused.ensures a.records.now ∙ run_seven a.table.now a.n a.records.now a.count (sym c.accepts.ensures ∙ c.if-not-accepts.true)
-
--- past the first test the table is accepted
-accepted_there : (u : Else-not-accepts) → (let a = u.args in accepted a.table.now a.n ≡ true)
-accepted_there u = sym u.accepts.ensures ∙ u.if-not-accepts.false
+    run_seven a.table.now a.n a.records.now a.count (false_from_ne_true (accepted a.table.now a.n) (λ e. false≢true (c.in_default.ensures.exactly.1 e)))
 
 pub returns-then-records-gt16383 : goal.returns-then-records-gt16383
 returns-then-records-gt16383 c =
     let a = c.args in
-    c.refused-then-records-gt16383.ensures a.records.now ∙ run_sixteen a.table.now a.n a.records.now a.count (accepted_there (goal.at.returns-then-records-gt16383 c).Else-not-accepts) c.if-records-gt16383.true
-
-pub run_on-requires : goal.run_on-requires
-run_on-requires c = let a = c.args in (accepts_only a.table.now a.n (accepted_there (goal.at.run_on-requires c).Else-not-accepts), c.if-records-gt16383.false)
+    run_sixteen a.table.now a.n a.records.now a.count (c.in-Some.ensures.exactly.0 refl) c.if-records-gt16383.true
 
 pub returns : goal.returns
 returns c =
     let a = c.args in
-    c.run_on.ensures ∙ run_unrefused a.table.now a.n a.records.now a.count (accepted_there (goal.at.returns c).Else-not-accepts) c.if-records-gt16383.false
+    let same = c.in-Some.ensures.same in
+    c.run_on.ensures
+    ∙ (λ i. run_from (table_in (same.0 i) (same.1 i)) a.count (start_moment a.records.now))
+    ∙ run_unrefused a.table.now a.n a.records.now a.count (c.in-Some.ensures.exactly.0 refl) c.if-records-gt16383.false

@@ -1,30 +1,32 @@
 -- Go, by its number: refused, or wound forward.
-use mathlib.Core.Path.{◌≡◌, sym, ◌∙◌}
+use mathlib.Core.Path.{◌≡◌}
+use mathlib.Core.Option.{none}
+use Rattle.std.proofs.lemmas.Result.{err_from_is_err_and}
 use Rattle.calls.specs.Looks.{go_number}
 use Rattle.calls.specs.Moves.{go}
 use Rattle.calls.proofs.MoveLaws.{move_number}
-use Rattle.session.specs.Types.{lent, number_meant}
+use Rattle.session.specs.Types.{lent}
 use Rattle.session.proofs.Calls.{move_refuses, move_ready, move_winds}
 use Rattle.session.proofs.go.Goals as goal
-use Rattle.session.proofs.go.Goals.{Else-number-ne0}
+use Rattle.session.proofs.go.Goals.{In_ok-tree}
 
--- past the test the number is 0
-unrefused : (u : Else-number-ne0) → (let a = u.args in 0 ≡ number_meant (move_number (go a.position a.count) (lent a.table.now a.n a.session a.log.now a.tape.now)))
+-- past the test no number refuses the call
+unrefused : (u : In_ok-tree) → (let a = u.args in none ≡ move_number (go a.position a.count) (lent a.table.now a.n a.session a.log.now a.tape.now))
 unfolding go_number
-unrefused u = sym u.if-number-ne0.false ∙ u.go_number-number.ensures
+unrefused u = u.in_ok-tree.ensures.number
 
-pub returns-then-number-ne0 : goal.returns-then-number-ne0
+pub returns-in_err-tree : goal.returns-in_err-tree
 unfolding go_number
-returns-then-number-ne0 c =
+returns-in_err-tree c =
     let a = c.args in
-    let k = c.go_number-number in
-    move_refuses (go a.position a.count) a.table.now a.n a.session a.log.now a.tape.now k.result c.refused_outcome.result k.ensures c.if-number-ne0.true c.refused_outcome.ensures
+    let p = err_from_is_err_and c.from_residual.result c.from_residual.ensures.1 in
+    rw (p.1, p.2) (move_refuses (go a.position a.count) a.table.now a.n a.session a.log.now a.tape.now c.in_err-tree.field-0.0 c.in_err-tree.ensures.number)
 
 pub wind-requires : goal.wind-requires
-wind-requires c = let a = c.args in move_ready (go a.position a.count) a.table.now a.n a.session a.log.now a.tape.now (unrefused (goal.at.wind-requires c).Else-number-ne0)
+wind-requires c = let a = c.args in rw (c.in_ok-tree.ensures.same.0, c.in_ok-tree.ensures.same.1) (move_ready (go a.position a.count) a.table.now a.n a.session a.log.now a.tape.now (unrefused (goal.at.wind-requires c).In_ok-tree))
 
 pub returns : goal.returns
 returns c =
     let a = c.args in
     let k = c.wind in
-    move_winds (go a.position a.count) a.table.now a.n a.session a.log.now a.tape.now (unrefused (goal.at.returns c).Else-number-ne0) k.result k.new.log k.new.tape k.ensures
+    move_winds (go a.position a.count) a.table.now a.n a.session a.log.now a.tape.now (unrefused (goal.at.returns c).In_ok-tree) k.result k.new.log k.new.tape (rw (c.in_ok-tree.ensures.same.0, c.in_ok-tree.ensures.same.1) at k.ensures)

@@ -1,14 +1,15 @@
 -- `put_text` puts the text of the whole table in the dialect that it is told.
+use Rattle.term.proofs.Accepted.{tree_accepted}
 use Rattle.writer.proofs.Whole.{whole_puttable, names_put}
 use Rattle.writer.proofs.put_text.Goals as goal
 
 pub put_part-requires : goal.put_part-requires
-put_part-requires c = let A = c.requires in (A.term, (_, whole_puttable _ _ A))
+put_part-requires c = let A = tree_accepted c.args.tree.now in (A.term, (_, whole_puttable _ _ A))
 
 pub returns-in-Names : goal.returns-in-Names
 returns-in-Names c =
     let a = c.args in
-    rw c.in-Names.is (names_put a.table.now a.n c.put_part.ensures)
+    rw c.in-Names.is (names_put a.tree.now.words a.tree.now.n c.put_part.ensures)
 
 pub returns-in-Numbers : goal.returns-in-Numbers
 returns-in-Numbers c = rw c.in-Numbers.is c.put_numbers.ensures

@@ -4,7 +4,5 @@ use Rattle.yildreuz.proofs.yildreuz_look.Goals as goal
 
 pub returns : goal.returns
 returns c =
-    let looked = c in
-    let made = looked in
-    let a = made.args in
-    foretold_so a.table.now a.n a.session a.log.now a.tape.now a.count (c.look_told.ensures _ _) looked.look-l.ensures made.made_with-s.ensures
+    let a = c.args in
+    foretold_so a.table.now a.n a.session a.log.now a.tape.now a.count (c.look_told.ensures _ _) c.look.ensures c.made_with-s.ensures

@@ -1,54 +1,49 @@
 -- What was counted so far, with what is still to be counted, is the index.
-use mathlib.Core.Path.{◌≡◌, ap, ◌∙◌}
+use mathlib.Core.Path.{◌≡◌, refl, ap, ◌∙◌}
+use mathlib.Core.Bool.{Bool, true, false}
+use Prim.Native.Nat.{◌-◌, ◌+◌}
 use native.Mathlib.Omega.{arith}
-use Rattle.term.specs.Table.{table_in, kind_of}
+use Rattle.std.specs.Prelude.{Option, Some, None}
+use Rattle.std.specs.Int.{from_bool}
+use Rattle.std.specs.Option.{option_eq}
+use Rattle.term.specs.Table.{table_in}
+use Rattle.term.specs.Kinds.{kind_meant}
+use Rattle.term.specs.declared.kinds.Kind.{Kind}
+use Rattle.term.specs.declared.kinds.Kind.TheVariants.{Variable, Abstraction, Application}
 use Rattle.term.proofs.Table.{nodes_are}
 use Rattle.kam.specs.Krivine.{abstractions_in, abstractions_up, index_at}
-use Rattle.krivine.proofs.Climb.{one_at_most, climb_starts, climb_ends, climb_met, climb_on}
+use Rattle.krivine.proofs.Climb.{climb_ends, climb_met, climb_on}
 use Rattle.krivine.proofs.index.index_of.Goals as goal
-use Rattle.krivine.proofs.index.index_of.Goals.{At-loop-left}
-
-pub left-binder-requires : goal.left-binder-requires
-left-binder-requires c = tt
-
-pub parent-at-requires : goal.parent-at-requires
-parent-at-requires c = tt
-
-pub loop-left-init : goal.loop-left-init
-loop-left-init c = climb_starts
+use Rattle.krivine.proofs.index.index_of.Goals.{At-loop}
 
 -- the whole way up, from what was found before the loop
-whole : (l : At-loop-left) → (let a = l.args in
-    abstractions_up a.n (table_in a.table.now a.n) l.left-binder.result l.parent-at.result ≡ index_at (table_in a.table.now a.n) a.node)
+whole : (l : At-loop) → (let a = l.args in
+    abstractions_up a.tree.now.n (table_in a.tree.now.words a.tree.now.n) l.left-binder.result l.parent-at.result ≡ index_at (table_in a.tree.now.words a.tree.now.n) a.node)
 whole l =
     let a = l.args in
-    rw (l.left-binder.ensures, l.parent-at.ensures, nodes_are a.table.now a.n)
+    rw (l.left-binder.ensures, l.parent-at.ensures, nodes_are a.tree.now.words a.tree.now.n)
+
+-- an abstraction alone counts, by any test of two kinds that tells it from the others
+counted : (E : Kind → Kind → Bool) → E Abstraction Abstraction ≡ true → E Variable Abstraction ≡ false → E Application Abstraction ≡ false
+    → (o : Option Kind) → from_bool (option_eq E o (Some Abstraction)) ≡ abstractions_in (kind_meant o)
+counted E a v p None = refl
+counted E a v p (Some Abstraction) = rw a
+counted E a v p (Some Variable) = rw v
+counted E a v p (Some Application) = rw p
+
+pub loop-preserved : goal.loop-preserved
+loop-preserved c =
+    let l = c.loop in
+    let n = c.args.tree.now.n in
+    let counts = c.from-between.ensures ∙ ap from_bool c.eq.ensures ∙ counted _ refl refl refl c.kind.result ∙ ap abstractions_in c.kind.ensures in
+    climb_on l.invariant (n - (l.counter + 1)) (omega arith) c.if-at-binder.false counts c.parent-at-in-loop.ensures
+
+pub returns-after-loop : goal.returns-after-loop
+returns-after-loop c =
+    let l = c.loop in
+    let none : c.args.tree.now.n - l.counter ≡ 0 = omega arith in
+    climb_ends (rw none at l.invariant) ∙ whole (goal.at.returns-after-loop c).At-loop
 
 pub returns-then-at-binder : goal.returns-then-at-binder
 returns-then-at-binder c =
-    let l = c.loop-left in
-    climb_met l.invariant (omega arith) c.if-at-binder.true ∙ whole (goal.at.returns-then-at-binder c).At-loop-left
-
-pub kind-requires : goal.kind-requires
-kind-requires c = tt
-
-pub abstractions_in-between-requires : goal.abstractions_in-between-requires
-abstractions_in-between-requires c = tt
-
-pub overflow_add-between : goal.overflow_add-between
-overflow_add-between c = let l = c.loop-left in omega (arith, l.invariant.few, c.abstractions_in-between.ensures, one_at_most (kind_of c.kind.result))
-
-pub parent-at-requires-in-loop-left : goal.parent-at-requires-in-loop-left
-parent-at-requires-in-loop-left c = tt
-
-pub loop-left-preserved : goal.loop-left-preserved
-loop-left-preserved c =
-    let l = c.loop-left in
-    let kind_is = c.kind.ensures in
-    climb_on l.invariant (omega arith) c.if-at-binder.false (c.abstractions_in-between.ensures ∙ ap (λ k. abstractions_in (kind_of k)) kind_is) c.parent-at-in-loop-left.ensures
-
-pub returns : goal.returns
-returns c =
-    let l = c.loop-left in
-    let none : l.left ≡ 0 = omega arith in
-    climb_ends (rw none at l.invariant) ∙ whole (goal.at.returns c).At-loop-left
+    climb_met c.loop.invariant (omega arith) c.if-at-binder.true ∙ whole (goal.at.returns-then-at-binder c).At-loop

@@ -1,14 +1,14 @@
--- `any_foreign` says whether the bytes that are not foreign end before the text. Assumes nothing.
-use mathlib.Core.Path.{ap, ◌∙◌}
-use native.Mathlib.Nat.{zero-add}
-use lib.ListN.{length}
-use lib.Dec.{ltb}
-use Rattle.reader.specs.Scanning.{run_of}
-use Rattle.reader.proofs.Classes.{classes_tested}
-use Rattle.reader.proofs.Refusing.{not_foreign, foreign_stops}
+-- `any_foreign` asks each byte.
+use mathlib.Core.Path.{◌∙◌}
+use Rattle.std.proofs.Common.{rules, tests}
+use Rattle.std.proofs.lemmas.Iterator.{YieldsList-from_slice}
+use Rattle.std.proofs.lemmas.Iterator.Search.{any_from_yields_List}
+use Rattle.text.specs.Bytes.{class_of, is_foreign}
+use Rattle.reader.proofs.Refusing.{foreign_any}
 use Rattle.reader.proofs.scan.any_foreign.Goals as goal
 
 pub returns : goal.returns
 returns c =
     let text = c.args.text.now in
-    ap (λ k. ltb k (length text)) (c.run_end.ensures ∙ zero-add _ ∙ ap (λ test. run_of test text) (classes_tested not_foreign)) ∙ foreign_stops text
+    any_from_yields_List (λ b. is_foreign (class_of b)) _ _ c.any.result c.any.ensures.ran (YieldsList-from_slice text c.iter.ensures.rest) (λ x b q k. search (rules, tests))
+    ∙ foreign_any text

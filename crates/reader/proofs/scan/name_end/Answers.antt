@@ -1,13 +1,19 @@
--- `name_end` goes to the end of a name. Assumes nothing.
-use mathlib.Core.Path.{ap, ◌∙◌}
+-- `name_end` is as many bytes on as the name has.
+use mathlib.Core.Path.{◌≡◌, ap, ◌∙◌}
 use Prim.Native.Nat.{◌+◌}
-use lib.ListN.{drop}
-use Rattle.text.specs.Bytes.{in_name}
-use Rattle.reader.specs.Scanning.{run_of}
-use Rattle.reader.proofs.Classes.{classes_tested}
+use native.Mathlib.Omega.{arith}
+use lib.ListN.{length, drop, length-drop}
+use Rattle.reader.specs.Scanning.{name_run}
+use Rattle.reader.proofs.Scanning.{name_length, name_fits}
 use Rattle.reader.proofs.scan.name_end.Goals as goal
+use Rattle.reader.proofs.scan.name_end.Goals.{After-name_at}
+
+-- how many there are
+many : (c : After-name_at) → length c.name_at.result.now ≡ name_run (drop c.args.at c.args.text.now)
+many c = ap length c.name_at.ensures ∙ name_length (drop c.args.at c.args.text.now)
+
+pub overflow_add-result : goal.overflow_add-result
+overflow_add-result c = omega (arith, many c, name_fits (drop c.args.at c.args.text.now), length-drop c.args.at c.args.text.now)
 
 pub returns : goal.returns
-returns c =
-    let a = c.args in
-    c.run_end.ensures ∙ ap (λ test. a.at + run_of test (drop a.at a.text.now)) (classes_tested in_name)
+returns c = ap (λ n. c.args.at + n) (many c)

@@ -39,24 +39,21 @@ walk_entries-requires c = omega (arith, looked, past, holds)
 pub returns-then-log-l : goal.returns-then-log-l
 returns-then-log-l c =
     let a = c.args in
-    log_over (table_in a.table.now a.n) (session_meant a.session) a.log.now a.tape.now c.if-log-l.true
+    log_over (table_in a.tree.now.words a.tree.now.n) (session_meant a.session) a.log.now a.tape.now c.if-log-l.true
 
 pub returns-then-tape-t : goal.returns-then-tape-t
 returns-then-tape-t c =
     let a = c.args in
-    tape_over (table_in a.table.now a.n) (session_meant a.session) a.log.now a.tape.now c.if-tape-t.true
+    tape_over (table_in a.tree.now.words a.tree.now.n) (session_meant a.session) a.log.now a.tape.now c.if-tape-t.true
 
 pub returns-then-not-zeros : goal.returns-then-not-zeros
 returns-then-not-zeros c =
     let a = c.args in
-    log_dirty (table_in a.table.now a.n) (session_meant a.session) a.log.now a.tape.now
+    log_dirty (table_in a.tree.now.words a.tree.now.n) (session_meant a.session) a.log.now a.tape.now
     (zeros_past a.log.now a.session.log_len c.zeros.ensures c.if-not-zeros.true)
 
 pub returns-then-not-zeros-2 : goal.returns-then-not-zeros-2
 returns-then-not-zeros-2 c =
     let a = c.args in
-    tape_dirty (table_in a.table.now a.n) (session_meant a.session) a.log.now a.tape.now
+    tape_dirty (table_in a.tree.now.words a.tree.now.n) (session_meant a.session) a.log.now a.tape.now
     (zeros_past a.tape.now a.session.tape_len c.zeros-2.ensures c.if-not-zeros-2.true)
-
-pub returns : goal.returns
-returns c = c.walk_entries.ensures

@@ -1,9 +1,8 @@
 -- `walk_entries`: above the tops all is 0, so the node, the turns and the two counts decide.
-use mathlib.Core.Path.{sym, ◌∙◌}
+use mathlib.Core.Path.{◌∙◌}
 use Prim.Native.Nat.{◌≤◌}
 use native.Mathlib.Omega.{arith}
 use lib.ListN.{take}
-use lib.Seq.{length-take-le}
 use Rattle.term.specs.Table.{table_in}
 use Rattle.term.proofs.Table.{nodes_are}
 use Rattle.session.specs.Counting.{have_log}
@@ -15,42 +14,32 @@ use Rattle.session.proofs.check.walk_entries.Goals as goal
 pub returns-then-node-eq0 : goal.returns-then-node-eq0
 returns-then-node-eq0 c =
     let a = c.args in
-    no_node (table_in a.table.now a.n) (session_meant a.session) a.log.now a.tape.now (omega arith)
+    no_node (table_in a.tree.now.words a.tree.now.n) (session_meant a.session) a.log.now a.tape.now (omega arith)
 
 pub returns-then-n-node : goal.returns-then-n-node
 returns-then-n-node c =
     let a = c.args in
-    past_nodes (table_in a.table.now a.n) (session_meant a.session) a.log.now a.tape.now (omega (arith, nodes_are a.table.now a.n))
+    past_nodes (table_in a.tree.now.words a.tree.now.n) (session_meant a.session) a.log.now a.tape.now (omega (arith, nodes_are a.tree.now.words a.tree.now.n))
 
 pub returns-then-session : goal.returns-then-session
 returns-then-session c =
     let a = c.args in
-    turns_over (table_in a.table.now a.n) (session_meant a.session) a.log.now a.tape.now (omega arith)
-
-pub slice_bounds-is_log-end : goal.slice_bounds-is_log-end
-slice_bounds-is_log-end c =
-    let a = c.args in
-    sym (length-take-le a.session.log_len a.log.now (omega arith))
+    turns_over (table_in a.tree.now.words a.tree.now.n) (session_meant a.session) a.log.now a.tape.now (omega arith)
 
 pub returns-then-not-is_log : goal.returns-then-not-is_log
 returns-then-not-is_log c =
     let a = c.args in
-    let T = table_in a.table.now a.n in
+    let T = table_in a.tree.now.words a.tree.now.n in
     log_miscounted T (session_meant a.session) a.log.now a.tape.now
     (counted_to (have_log T (take a.session.log_len a.log.now) 0) c.level-level.result (T.level a.session.node)
     c.level-level.ensures c.is_log.ensures c.if-not-is_log.true)
 
-pub slice_bounds-is_tape-end : goal.slice_bounds-is_tape-end
-slice_bounds-is_tape-end c =
-    let a = c.args in
-    sym (length-take-le a.session.tape_len a.tape.now (omega arith))
-
 pub returns : goal.returns
 returns c =
     let a = c.args in
-    let T = table_in a.table.now a.n in
+    let T = table_in a.tree.now.words a.tree.now.n in
     let from_one : 1 ≤ a.session.node = omega arith in
-    let to_last : a.session.node ≤ T.nodes = omega (arith, nodes_are a.table.now a.n) in
+    let to_last : a.session.node ≤ T.nodes = omega (arith, nodes_are a.tree.now.words a.tree.now.n) in
     let few : a.session.turns ≤ a.session.position = omega arith in
     c.is_tape.ensures
     ∙ tape_decides T (session_meant a.session) a.log.now a.tape.now

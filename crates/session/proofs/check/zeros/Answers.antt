@@ -1,35 +1,13 @@
--- `zeros`: every word passed is 0, so what is left decides.
-use mathlib.Core.Path.{refl, sym, ◌∙◌}
-use native.Mathlib.Omega.{arith}
-use Rattle.session.proofs.Words.{zero_more, zero_stop, zero_end}
+-- `zeros`: every word is 0, or one is not.
+use mathlib.Core.Path.{◌≡◌}
+use borrow.Author.Tests.{tests}
+use Rattle.std.proofs.Common.{rules}
+use Rattle.std.proofs.lemmas.Iterator.{YieldsList-from_slice, cases_from_all}
+use Rattle.session.proofs.Words.{zeros_told}
 use Rattle.session.proofs.check.zeros.Goals as goal
-
-pub loop-i-init : goal.loop-i-init
-loop-i-init c = (omega arith, refl)
-
-pub offset_bounds-words-i : goal.offset_bounds-words-i
-offset_bounds-words-i c = omega arith
-
-pub bounds-words-i : goal.bounds-words-i
-bounds-words-i c = omega arith
-
-pub returns-then-words-i-ne0 : goal.returns-then-words-i-ne0
-returns-then-words-i-ne0 c =
-    let l = c in
-    sym (l.loop-i.invariant.1 ∙ zero_stop l.args.words.now l.loop-i.i (omega arith) c.if-words-i-ne0.true)
-
-pub overflow_add-i : goal.overflow_add-i
-overflow_add-i c = omega arith
-
-pub loop-i-smaller : goal.loop-i-smaller
-loop-i-smaller c = omega arith
-
-pub loop-i-preserved : goal.loop-i-preserved
-loop-i-preserved c =
-    let l = c in
-    (omega arith, l.loop-i.invariant.1 ∙ zero_more l.args.words.now l.loop-i.i (omega arith) c.if-words-i-ne0.false)
 
 pub returns : goal.returns
 returns c =
-    let l = c in
-    sym (l.loop-i.invariant.1 ∙ zero_end l.args.words.now l.loop-i.i (omega arith))
+    zeros_told c.args.words.now c.all.result
+    (cases_from_all _ _ _ (λ x. x ≡ 0) (λ x. x ≡ 0 → ⊥) c.all.ensures.ran (YieldsList-from_slice c.args.words.now cc)
+    (λ x q k. search (rules, tests)) (λ x q k. search (rules, tests)))

@@ -1,16 +1,17 @@
 -- `span` reads words from the top down: what is owed still, of the words left, is what the words read leave to be found.
 use mathlib.Core.Path.{◌≡◌}
-use mathlib.Core.List.{reverse}
-use Prim.Native.Nat.{◌≤◌, ◌-◌, ◌+◌, ◌*◌}
-use lib.ListN.{take}
-use Rattle.term.specs.Table.{table_in}
+use mathlib.Core.List.{List, reverse}
+use Prim.Native.Nat.{ℕ, ◌≤◌, ◌+◌, ◌*◌}
+use lib.ListN.{length, take}
+use Rattle.term.specs.Table.{Table, table_in}
 use Rattle.machine.specs.Span.{span}
 use Rattle.session.proofs.extent.span.Given as goal
 
-abbrev pub invariant-loop-left : goal.invariant-loop-left
-invariant-loop-left l = (l.i ≤ l.top)
-    × (l.left ≤ l.owed + (l.top - l.i) * 4294967295)
-    × (span (table_in l.table l.n) (reverse (take l.top l.words)) l.owed ≡ l.top - l.i + span (table_in l.table l.n) (reverse (take l.i l.words)) l.left)
+-- After i words the words below are still to be read.
+pub record Reads (T : Table) (words : List ℕ) (top owed i : ℕ) (below : List ℕ) (left : ℕ) : Type 0 where
+  pub many : i + length below ≡ top
+  pub few : left ≤ owed + i * 4294967295
+  pub found : span T (reverse (take top words)) owed ≡ i + span T (reverse below) left
 
-abbrev pub decreases-loop-left : goal.decreases-loop-left
-decreases-loop-left l = l.i
+abbrev pub invariant-loop-i : goal.invariant-loop-i
+invariant-loop-i l = Reads (table_in l.tree.words l.tree.n) l.words l.top l.owed l.i-iterator.count l.i-iterator.iter.iter.rest.now l.left

@@ -1,11 +1,11 @@
 -- `move_words` copies one word a pass and clears it: after i passes i zeros stand in the one slice, and the i words in the other.
-use mathlib.Core.Path.{◌≡◌, refl, sym, ap, ap₂, ◌∙◌}
+use mathlib.Core.Path.{◌≡◌, sym, ap, ap₂, ◌∙◌}
 use mathlib.Core.List.{List, ◌++◌, append_assoc}
 use Prim.Native.Nat.{ℕ, ◌<◌, ◌-◌, ◌+◌}
 use native.Mathlib.Nat.{add-zero, zero-add}
 use native.Mathlib.Numerals.{add-one}
 use native.Mathlib.Omega.{arith}
-use lib.ListN.{length, take, drop, get_or, set, replicate, length-set, length-drop, length-replicate, get_or-replicate}
+use lib.ListN.{length, take, drop, get_or, set, replicate, length-drop, length-replicate, get_or-replicate}
 use lib.Seq.{get_or-drop, paste, paste-zero, paste-suc, drop-paste}
 use Rattle.session.proofs.Slices.{zeros_all}
 use Rattle.session.proofs.mover.move_words.Goals as goal
@@ -35,49 +35,11 @@ not_cleared d b k i h l =
     ∙ ap (λ j. get_or d j 0) (add-zero (b + i))
     ∙ sym (get_or-drop b d i 0)
 
-pub overflow_sub-b : goal.overflow_sub-b
-overflow_sub-b c = omega arith
-
 pub loop-i-init : goal.loop-i-init
 loop-i-init c =
     let a = c.args in
-    let b = a.top - a.k in (
-      omega arith,
-      paste-zero a.from.now b (replicate a.k 0),
-      paste-zero a.to.now 0 (drop b a.from.now),
-      refl,
-      refl,
-    )
-
-pub overflow_add-word : goal.overflow_add-word
-overflow_add-word c = omega arith
-
-pub offset_bounds-from-b : goal.offset_bounds-from-b
-offset_bounds-from-b c = omega arith
-
-pub bounds-from-b : goal.bounds-from-b
-bounds-from-b c = omega arith
-
-pub offset_bounds-to-i : goal.offset_bounds-to-i
-offset_bounds-to-i c = omega arith
-
-pub bounds-to-i : goal.bounds-to-i
-bounds-to-i c = omega arith
-
-pub overflow_add-from : goal.overflow_add-from
-overflow_add-from c = omega arith
-
-pub offset_bounds-from-b-in-loop-i : goal.offset_bounds-from-b-in-loop-i
-offset_bounds-from-b-in-loop-i c = omega arith
-
-pub bounds-from-b-in-loop-i : goal.bounds-from-b-in-loop-i
-bounds-from-b-in-loop-i c = omega arith
-
-pub overflow_add-i : goal.overflow_add-i
-overflow_add-i c = omega arith
-
-pub loop-i-smaller : goal.loop-i-smaller
-loop-i-smaller c = omega arith
+    let b = a.top - a.k in
+    (paste-zero a.from.now b (replicate a.k 0), paste-zero a.to.now 0 (drop b a.from.now))
 
 pub loop-i-preserved : goal.loop-i-preserved
 loop-i-preserved c =
@@ -86,19 +48,10 @@ loop-i-preserved c =
     let i = l.loop-i.i in
     let b = a.top - a.k in
     let here : b + i < length a.from.now = omega arith in (
-      omega arith,
-      ap (λ s. set s (b + i) 0) l.loop-i.invariant.1 ∙ clear_next a.from.now b a.k i (omega arith) here,
-      ap₂ (λ s v. set s i v) l.loop-i.invariant.2 (ap (λ s. get_or s (b + i) 0) l.loop-i.invariant.1 ∙ not_cleared a.from.now b a.k i (omega arith) here)
+      ap (λ s. set s (b + i) 0) l.loop-i.invariant.0 ∙ clear_next a.from.now b a.k i (omega arith) here,
+      ap₂ (λ s v. set s i v) l.loop-i.invariant.1 (ap (λ s. get_or s (b + i) 0) l.loop-i.invariant.0 ∙ not_cleared a.from.now b a.k i (omega arith) here)
           ∙ store_next (drop b a.from.now) a.to.now i (omega arith) (omega (arith, length-drop b a.from.now)),
-      simp length-set l.loop-i.invariant.3,
-      simp length-set l.loop-i.invariant.4,
     )
-
-pub shape_of-from : goal.shape_of-from
-shape_of-from c = c.loop-i.invariant.3
-
-pub shape_of-to : goal.shape_of-to
-shape_of-to c = c.loop-i.invariant.4
 
 pub returns : goal.returns
 returns c =
@@ -109,9 +62,9 @@ returns c =
     let t : b + a.k ≡ a.top = omega arith in
     record {
       left =
-          l.loop-i.invariant.1
+          l.loop-i.invariant.0
           ∙ ap (paste a.from.now b (replicate a.k 0)) e
           ∙ append_assoc (take b a.from.now) _ _
           ∙ ap₂ (λ q j. take b a.from.now ++ (q ++ drop j a.from.now)) (zeros_all a.k) t;
-      came = l.loop-i.invariant.2 ∙ ap (paste a.to.now 0 (drop b a.from.now)) e ∙ ap (λ j. take a.k (drop b a.from.now) ++ drop j a.to.now) (zero-add a.k);
+      came = l.loop-i.invariant.1 ∙ ap (paste a.to.now 0 (drop b a.from.now)) e ∙ ap (λ j. take a.k (drop b a.from.now) ++ drop j a.to.now) (zero-add a.k);
     }

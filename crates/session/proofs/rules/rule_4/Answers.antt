@@ -1,15 +1,12 @@
 -- `rule_4` makes rule 4, or finds the log full.
 use native.Mathlib.Omega.{arith}
-use Rattle.session.proofs.MovingRules.{some_4, few_4, made_4, full_4}
+use Rattle.session.specs.declared.rules.Full.TheVariants as IsFull
+use Rattle.session.proofs.Refused.{refused_by}
+use Rattle.session.proofs.MovingRules.{few_4, made_4, full_4}
 use Rattle.session.proofs.rules.rule_4.Goals as goal
 
-pub overflow_sub-under : goal.overflow_sub-under
-overflow_sub-under c =
-    let p = c in
-    some_4 p.requires.ready.token p.args.to 0 (p.requires.fits p.requires.ready.state p.requires.ready.token)
-
-pub move_onto-ends-requires : goal.move_onto-ends-requires
-move_onto-ends-requires c =
+pub move_onto-requires : goal.move_onto-requires
+move_onto-requires c =
     let p = c in
     let h = p.requires.ready.token in
     let few = few_4 h p.args.to c.arity-owed.result (p.requires.fits p.requires.ready.state h) c.arity-owed.ensures in
@@ -17,23 +14,18 @@ move_onto-ends-requires c =
     let fits = h.enters.holds.tape_fits in
     ((omega arith, short), omega arith, (h.enters.holds.log_fits, h.enters.short_log))
 
-pub bounds-tape-under : goal.bounds-tape-under
-bounds-tape-under c =
-    let p = c in
-    let h = p.requires.ready.token in
-    let same = c.move_onto-ends.auto.from in
-    omega (arith, some_4 h p.args.to 0 (p.requires.fits p.requires.ready.state h), h.enters.holds.tape_fits)
-
-pub returns-in-At : goal.returns-in-At
-returns-in-At c =
+pub returns-in_err-ends : goal.returns-in_err-ends
+returns-in_err-ends c =
     let p = c in
     let r = c.arity-owed in
+    let none = c.in_err-ends.ensures in
     λ s h.
-    rw (c.onto_log.ensures, c.in-At.is)
-    (made_4 h p.args.to r.result (p.requires.fits s h) r.ensures _ _ _ _ _ c.in-At.ensures)
+    rw (refused_by c.move_onto.result IsFull.Log c.from_residual.result none.ok_part none.value c.from_residual.ensures.1)
+    (full_4 h p.args.to r.result (p.requires.fits s h) r.ensures _ _ (rw none.ok_part at c.move_onto.ensures))
 
-pub returns-in-NoRoom : goal.returns-in-NoRoom
-returns-in-NoRoom c =
+pub returns : goal.returns
+returns c =
     let p = c in
     let r = c.arity-owed in
-    λ s h. full_4 h p.args.to r.result (p.requires.fits s h) r.ensures _ _ c.in-NoRoom.ensures
+    let moved = rw c.in_ok-ends.ensures.ok_part at c.move_onto.ensures in
+    λ s h. rw c.onto_log.ensures (made_4 h p.args.to r.result (p.requires.fits s h) r.ensures c.in_ok-ends.ends _ _ moved)

@@ -1,39 +1,20 @@
--- `bullets_in`: those found and those to come are all there are.
-use Prim.Native.Nat.{◌<◌}
-use native.Mathlib.Omega.{arith}
-use lib.ListN.{length}
-use Rattle.session.proofs.Weighing.{bullet_next, other_next, none_next}
+-- `bullets_in`: the words that are 0.
+use mathlib.Core.Path.{◌≡◌, refl, sym, ◌∙◌}
+use mathlib.Core.Bool.{cond}
+use mathlib.Core.List.{List, ◌∷◌}
+use Prim.Native.Nat.{ℕ, zero, suc, ◌+◌}
+use Rattle.std.specs.Prelude.{◌==◌, count_by}
+use Rattle.std.proofs.Common.{arith, rules}
+use Rattle.std.proofs.lemmas.Bool.Decides.{nat_tests}
+use Rattle.std.proofs.lemmas.List.Recursion.{is_count_by}
+use Rattle.calls.specs.Weight.{zero_words}
 use Rattle.session.proofs.weight.bullets_in.Goals as goal
-use Rattle.session.proofs.weight.bullets_in.Goals.{then-words-i-eq0, else-words-i-eq0}
 
-pub loop-i-init : goal.loop-i-init
-loop-i-init c = (omega arith, omega arith, omega arith)
-
-pub offset_bounds-words-i : goal.offset_bounds-words-i
-offset_bounds-words-i c = omega arith
-
-pub bounds-words-i : goal.bounds-words-i
-bounds-words-i c = omega arith
-
-pub overflow_add-bullets : goal.overflow_add-bullets
-overflow_add-bullets c = omega arith
-
-pub overflow_add-i : goal.overflow_add-i
-overflow_add-i c = omega arith
-
-pub loop-i-smaller : goal.loop-i-smaller
-loop-i-smaller c = omega arith
-
-pub loop-i-preserved : goal.loop-i-preserved
-loop-i-preserved c =
-    let l = c in
-    let s = l.args.words.now in
-    let i = l.loop-i.i in
-    let h : i < length s = omega arith in
-    elim c.if-words-i-eq0.branch [
-      | then-words-i-eq0 w ↦ (omega arith, omega (arith, w.bullets-is), omega (arith, w.bullets-is, bullet_next s i h w.if-words-i-eq0.true))
-      | else-words-i-eq0 w ↦ (omega arith, omega (arith, w.bullets-is), omega (arith, w.bullets-is, other_next s i h w.if-words-i-eq0.false))
-    ]
+one_word : (w : ℕ) (ws : List ℕ) → zero_words (w ∷ ws) ≡ cond (w == 0) (1 + zero_words ws) (zero_words ws)
+one_word zero ws = omega arith
+one_word (suc v) ws = grind (arith, nat_tests)
 
 pub returns : goal.returns
-returns c = let l = c in omega (arith, none_next l.args.words.now l.loop-i.i (omega arith))
+returns c =
+    let counted : c.count.result ≡ count_by (λ w. w == 0) c.args.words.now = search rules in
+    counted ∙ sym (is_count_by zero_words (λ w. w == 0) refl one_word c.args.words.now)

@@ -3,7 +3,7 @@ use Prim.Native.Nat.{suc, ◌+◌, ◌*◌, ◌-◌}
 use Rattle.writer.proofs.part.+put_enclosed_put_part.Given as goal
 
 abbrev pub decreases-put_enclosed : goal.decreases-put_enclosed
-decreases-put_enclosed l = 2 * (suc l.n - l.node) + 1
+decreases-put_enclosed l = 2 * (suc l.tree.now.n - l.node) + 1
 
 abbrev pub decreases-put_part : goal.decreases-put_part
-decreases-put_part l = 2 * (suc l.n - l.node)
+decreases-put_part l = 2 * (suc l.tree.now.n - l.node)

@@ -1,9 +1,0 @@
--- `is_tape`: whether there is a count.
-use mathlib.Core.Path.{refl}
-use Rattle.session.proofs.check.is_tape.Goals as goal
-
-pub returns-in-Entries : goal.returns-in-Entries
-returns-in-Entries c = let e = rw c.in-Entries.is at c.entries_in-counted.ensures in rw e refl
-
-pub returns-in-Bad : goal.returns-in-Bad
-returns-in-Bad c = let e = rw c.in-Bad.is at c.entries_in-counted.ensures in rw e refl
