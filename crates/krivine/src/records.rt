@@ -49,7 +49,7 @@ pub(crate) fn put_record(records: &mut [u32], taken: u32, put: Record)
     ensures { records.new ≡ sets records.old (word_index taken 0) (put.node ∷ put.environment ∷ put.next ∷ []) }
 {
     let at = 3 * taken as usize;
-    // Three stores: a copy of the three words at once makes a step of the machine slower by a tenth and more.
+    // Three stores: a copy of the three words at once makes a step of the machine slower.
     records[at] = put.node;
     records[at + 1] = put.environment;
     records[at + 2] = put.next;
