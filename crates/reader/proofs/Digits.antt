@@ -8,12 +8,13 @@ use native.Mathlib.Omega.{arith}
 use lib.ListN.{length, get_or, take, drop, length-append, length-drop}
 use lib.Seq.{drop-drop, drop-cons}
 use lib.Dec.{ltb}
-use borrow.Author.Tests.{ltb-true, ltb-false}
+use borrow.Author.Tests.{ltb-true, ltb-false, le-ltb}
 use Rattle.decimal.specs.Decimal.{value_after}
 use Rattle.std.specs.List.{take_while, prefix_len}
 use Rattle.text.specs.Bytes.{class_of, is_digit}
 use Rattle.text.specs.NumberParse.{digits_first}
 use Rattle.text.proofs.NumberParse.{digits_then}
+use Rattle.reader.specs.Numbers.{word_under}
 
 pub digits_while : (s : List ℕ) → take_while (λ b. is_digit (class_of b)) s ≡ digits_first s
 unfolding digits_first
@@ -38,7 +39,7 @@ module _ (text : List ℕ) (at end : ℕ) (within : at ≤ length text) (e : end
   digits_left = ap (λ k. drop k text) e ∙ sym (drop-drop (length (digits_first (drop at text))) at text)
 
 -- The value of digits, one by one: it grows with each.
-value_grows : (s : List ℕ) (v : ℕ) → v ≤ value_after v s
+pub value_grows : (s : List ℕ) (v : ℕ) → v ≤ value_after v s
 value_grows [] v = omega arith
 value_grows (b ∷ s) v = omega (arith, value_grows s (10 * v + (b - 48)))
 
@@ -55,3 +56,7 @@ value_cut d v s = by_order (ltb d v) refl
 pub value_next : (d v : ℕ) (s : List ℕ) (i : ℕ) → i < length s
     → min d (value_after (min d (10 * v + (get_or s i 0 - 48))) (drop (i + 1) s)) ≡ min d (value_after v (drop i s))
 value_next d v s i h = value_cut d (10 * v + (get_or s i 0 - 48)) (drop (i + 1) s) ∙ rw (drop-cons s i 0, add-one i)
+
+-- The word of a number that reaches past the binders.
+pub word_past : (d v : ℕ) → d ≤ v → word_under d v ≡ 0
+word_past d v h = rw (le-ltb v d h)

@@ -6,7 +6,7 @@ use crate::scan::variable_word;
 use crate::token::{after_mark, name_first, starts_atom};
 
 // Each function takes the text, the scope and the code as parameters, and no struct of them: a lent slice keeps its length in every call, which of a
-// struct's field each contract here would have to say. What they call is kept out of line, so that a level of the stack stays small.
+// struct's field each contract here would have to say. What writes marks and looks for a binder is kept out of line, so that a level of the stack stays small.
 
 // The words of the code are numbers: 0, 1, 2, or 3 and an index, as the definition `code_of` writes them.
 

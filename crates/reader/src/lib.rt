@@ -24,6 +24,14 @@ pub fn read(text: &[u8], table: &mut [u16]) -> Result<u32, Refusal>
     ensures { read_meant result table.new ≡ read_of text.now table.old }
 {
     spelling(text)?;
+    read_spelled(text, table)
+}
+
+// Numbers 4 to 6, of a text to which 1 to 3 do not apply. (A function of its own, so that its arrays cost nothing where those do.)
+fn read_spelled(text: &[u8], table: &mut [u16]) -> Result<u32, Refusal>
+    requires { spelling_number text.now ≡ 0 }
+    ensures { read_meant result table.new ≡ read_of text.now table.old }
+{
     let mut code = [0u32; 6000];
     let Some(n) = code_of(text, &mut code) else {
         return Err(Refusal::NotATerm);

@@ -73,13 +73,16 @@ fn digit_value(b: u8) -> usize
 }
 
 // The word of a number under so many binders, and 0 where it reaches past them, as the definition `word_under` has it: number 14 is put to the words of the whole text. Its value is cut at
-// the binders, so that no number is too large.
+// the binders, so that no number is too large, and once it is cut no further digit is looked at.
 fn number_word(digits: &[u8], depth: usize) -> u32
     requires { depth ≤ 3000 }
     ensures { result ≡ word_under depth (value_after 0 digits.now) }
 {
     let mut value = 0;
     for b in digits {
+        if value == depth {
+            return 0;
+        }
         value = depth.min(10 * value + digit_value(*b));
     }
     if value < depth { (3 + value) as u32 } else { 0 }

@@ -8,7 +8,6 @@ use crate::bytes::in_name;
 use crate::scan::{name_end, skip};
 
 // Where the text goes on after a sign, if that is the next token.
-#[inline(never)]
 pub(crate) fn after_mark(text: &[u8], at: usize, mark: u8) -> Option<usize>
     requires { (at ≤ length text.now) × (class_of mark ≡ sign) }
     ensures { AfterIs mark text.now at result }
@@ -19,7 +18,6 @@ pub(crate) fn after_mark(text: &[u8], at: usize, mark: u8) -> Option<usize>
 }
 
 // Where a name stands and ends, if that is the next token.
-#[inline(never)]
 pub(crate) fn name_first(text: &[u8], at: usize) -> Option<(usize, usize)>
     requires { at ≤ length text.now }
     ensures { FirstIs text.now at result }
@@ -30,7 +28,6 @@ pub(crate) fn name_first(text: &[u8], at: usize) -> Option<(usize, usize)>
 }
 
 // Whether an atom begins there.
-#[inline(never)]
 pub(crate) fn starts_atom(text: &[u8], at: usize) -> bool
     ensures { result ≡ starts_atom (tokens_from text.now at) }
 {

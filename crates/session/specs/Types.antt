@@ -113,6 +113,11 @@ abbrev pub part_meant : Result (Bor (List ℕ)) Refusal → List ℕ × ℕ
 part_meant (Ok part) = (part.now, 0)
 part_meant (Err r) = ([], refusal_number r)
 
+-- Where the part begins, of a slice that begins there: in place of a refusal a caller takes the empty part at the slice's beginning.
+abbrev pub part_start : Result (Bor (List ℕ)) Refusal → ℕ × ℕ → ℕ × ℕ
+part_start (Ok part) start = part.ref_ptr
+part_start (Err r) start = start
+
 -- Where the word at index i lies in memory, of a slice that begins there. (A pointer is a block of memory and a byte in it; a word has four bytes.)
 abbrev pub word_ptr : ℕ × ℕ → ℕ → ℕ × ℕ
 word_ptr p i = (p.0, i * 4 + p.1)

@@ -2,12 +2,12 @@
 // chosen node in a chosen direction (document 02, change 5), and a look ahead and the way by what it handed out (document 02, change 10).
 #![tactic(auto)]
 
-ghost use Rattle.std.specs.Prelude.{◌≡◌, IfOk};
+ghost use Rattle.std.specs.Prelude.{◌≡◌};
 ghost use Rattle.calls.specs.Calls.{open_of, wind_of, forward_of, back_of, go_to_of};
 ghost use Rattle.calls.specs.Looks.{look_of, go_of};
 ghost use Rattle.calls.specs.Top.{as_told, top_of, seen};
 ghost use Rattle.calls.specs.Visits.{spot, back_to_of, forward_to_of};
-ghost use Rattle.session.specs.Types.{opening_meant, outcome_meant, look_meant, way_meant, which_meant, dir_meant, lent, part_meant, word_ptr};
+ghost use Rattle.session.specs.Types.{opening_meant, outcome_meant, look_meant, way_meant, which_meant, dir_meant, lent, part_meant, part_start, word_ptr};
 
 mod check;
 mod choice;
@@ -273,9 +273,9 @@ pub fn top<'a>(
 ) -> Result<&'a [u32], Refusal>
     ensures shown { part_meant result
         ≡ seen (top_of (which_meant which) (lent table.now n session log.now tape.now)) }
-    ensures there { IfOk result (λ part. part.ref_ptr
+    ensures there { part_start result (as_told (which_meant which) log.entry.ref_ptr tape.entry.ref_ptr)
         ≡ word_ptr (as_told (which_meant which) log.entry.ref_ptr tape.entry.ref_ptr)
-        (top_of (which_meant which) (lent table.now n session log.now tape.now)).offset) }
+        (top_of (which_meant which) (lent table.now n session log.now tape.now)).offset }
 {
     let place = top_place(table, n, session, log, tape, which)?;
     let words = which.choose(log, tape);

@@ -3,7 +3,6 @@ use mathlib.Core.Path.{◌≡◌, refl, sym, ap, ◌∙◌, subst, subst₂}
 use mathlib.Core.Bool.{Bool, true, false, ◌&&◌}
 use mathlib.Core.Option.{Option, none, some}
 use Rattle.std.specs.Prelude.{Some, None}
-use Rattle.std.specs.Option.{option_eq}
 use mathlib.Core.List.{List, [], ◌∷◌}
 use Prim.Native.Nat.{ℕ, zero, suc, ◌+◌, ◌-◌, ◌*◌, ◌≤◌, ◌<◌}
 use native.Mathlib.Numerals.{add-one}
@@ -16,7 +15,7 @@ use Rattle.term.specs.Term.{Term, var, lam, app}
 use Rattle.term.specs.Table.{Table, table_in}
 use Rattle.term.specs.Rows.{Row, RowsIn}
 use Rattle.term.specs.Accepted.{most_nodes, Part, part, part_at, is_whole, accepted}
-use Rattle.term.specs.Walk.{RootIs, binders_in, PartAnswer, PartWalked}
+use Rattle.term.specs.Walk.{RootIs, binders_in, PartAnswer, end_said, PartWalked}
 use Rattle.term.specs.declared.kinds.Kind.TheVariants.{Variable, Abstraction, Application}
 use Rattle.term.proofs.Table.{nodes_are}
 use Rattle.term.proofs.Rows.{root_parent, root_level, root_left, root_right, root_kind}
@@ -78,6 +77,10 @@ pub root_there : (T : Table) (i p v : ℕ) (k : _) → RootIs T i p v (Some k) �
 root_there T i p v Variable h = h.0
 root_there T i p v Abstraction h = h.0
 root_there T i p v Application h = h.0
+
+pub end_some : (r : ℕ) → 0 < r → end_said r ≡ Some r
+end_some zero h = absurd (omega arith)
+end_some (suc r) h = refl
 
 -- a depth that suffices at a node is one more than one that suffices below it
 deeper : (last i : ℕ) (read : ℕ → Option Part) (o : Option Part) → i ≤ last → ((d : ℕ) → suc last - suc i ≤ d → read (suc d) ≡ o) → (d : ℕ) → suc last - i ≤ d → read d ≡ o
@@ -208,6 +211,6 @@ module _ (w s u : List ℕ) (n : ℕ) (some_node : 1 ≤ n) (few_nodes : n ≤ m
       ∙ ap (λ b. b && leb (5 * n) (length w) && whole_part) (le-leb n most_nodes few_nodes)
       ∙ ap (λ b. b && whole_part) (le-leb (5 * n) (length w) long)
 
-  pub walked_whole : (r : _) → PartWalked (table_in w n) s u 0 1 0 0 r → option_eq eqb r (Some (n + 1)) ≡ accepted w n
-  walked_whole None h = sym (only_whole ∙ ap (is_whole n) (h.answer n (omega (arith, nodes_are w n))))
-  walked_whole (Some r) h = ap (eqb r) (add-one n) ∙ sym (only_whole ∙ ap (is_whole n) (h.answer.is n (omega (arith, nodes_are w n))))
+  pub walked_whole : (r : ℕ) → PartWalked (table_in w n) s u 0 1 0 0 (end_said r) → eqb r (n + 1) ≡ accepted w n
+  walked_whole zero h = ne_eqb 0 (n + 1) (omega arith) ∙ sym (only_whole ∙ ap (is_whole n) (h.answer n (omega (arith, nodes_are w n))))
+  walked_whole (suc r) h = ap (eqb (suc r)) (add-one n) ∙ sym (only_whole ∙ ap (is_whole n) (h.answer.is n (omega (arith, nodes_are w n))))

@@ -22,12 +22,18 @@ abbrev pub binders_in : List ℕ → ℕ → List ℕ
 binders_in scope zero = []
 binders_in scope (suc d) = get_or scope d 0 ∷ binders_in scope d
 
+-- The first words of a scope stand in their order, as binders do of which each is inside those before it.
+abbrev pub Rising : List ℕ → ℕ → Type 0
+Rising scope depth = (x y : ℕ) → x < y → y < depth → get_or scope x 0 < get_or scope y 0
+
 -- Each node before node i is at most one binder around it and at most one level.
 pub record ScopeRoom (scope : List ℕ) (n depth i v : ℕ) : Type 0 where
   pub few_nodes : n ≤ most_nodes
   pub long : n ≤ length scope
   pub binders : depth < i
   pub levels : v < i
+  pub before : (x : ℕ) → x < depth → get_or scope x 0 < i
+  pub rising : Rising scope depth
 
 -- A part is read that ends before node r, whatever the depth, if that is enough.
 pub record PartEnds (last i r : ℕ) (read : ℕ → MathOption Part) : Type 0 where
@@ -40,6 +46,11 @@ pub record PartEnds (last i r : ℕ) (read : ℕ → MathOption Part) : Type 0 w
 abbrev pub PartAnswer : ℕ → ℕ → (ℕ → MathOption Part) → Option ℕ → Type 0
 PartAnswer last i read None = (d : ℕ) → suc last - i ≤ d → read d ≡ none
 PartAnswer last i read (Some r) = PartEnds last i r read
+
+-- The number for it: the node, or 0 for none.
+abbrev pub end_said : ℕ → Option ℕ
+end_said zero = None
+end_said (suc r) = Some (suc r)
 
 -- It leaves the binders around as they were.
 pub record PartWalked (T : Table) (before after : List ℕ) (depth i p v : ℕ) (r : Option ℕ) : Type 0 where

@@ -36,6 +36,17 @@ impl<'a> Tree<'a> {
         }
     }
 
+    // The same tree. A loop that reads its own copy and writes elsewhere keeps it in registers; behind a reference it is read again after each write. (Copy is not to be had: Rattle has none
+    // for a model's struct with a lifetime.)
+    pub fn copied(&self) -> Tree<'a>
+        ensures { (result.words ≡ self.now.words) × (result.n ≡ self.now.n) }
+    {
+        Tree {
+            table: self.table,
+            n: self.n,
+        }
+    }
+
     // How many nodes it has.
     pub fn n(&self) -> u32
         ensures { result ≡ self.now.n }

@@ -62,6 +62,6 @@ fn put_text(dialect: Dialect, tree: &Tree<'_>, out: &mut [u8]) -> usize
 {
     match dialect {
         Dialect::Names => put_part(tree, 1, out, 0),
-        Dialect::Numbers => put_numbers(tree, out),
+        Dialect::Numbers => put_numbers(&tree.copied(), out),
     }
 }

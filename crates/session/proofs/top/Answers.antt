@@ -5,7 +5,7 @@ use native.Mathlib.Omega.{arith}
 use lib.ListN.{length, take, drop}
 use Rattle.std.proofs.lemmas.Result.{err_from_is_err_and}
 use Rattle.calls.specs.Session.{Given}
-use Rattle.calls.specs.Top.{slice_given}
+use Rattle.calls.specs.Top.{as_told, slice_given}
 use Rattle.session.specs.Types.{lent, which_meant, word_ptr}
 use Rattle.session.proofs.Places.{told_part, place_fits, place_cut, place_refused}
 use Rattle.session.proofs.top.Goals as goal
@@ -16,6 +16,15 @@ returns-in_err-place-clause-shown c =
     let a = c.args in
     let p = err_from_is_err_and c.from_residual.result c.from_residual.ensures.1 in
     rw (p.1, p.2) (place_refused (which_meant a.which) (lent a.table.now a.n a.session a.log.now a.tape.now) c.in_err-place.ensures)
+
+pub returns-in_err-place-clause-there : goal.returns-in_err-place-clause-there
+returns-in_err-place-clause-there c =
+    let a = c.args in
+    let p = err_from_is_err_and c.from_residual.result c.from_residual.ensures.1 in
+    let start = as_told (which_meant a.which) a.log.ref_ptr a.tape.ref_ptr in
+    let at = ap (λ x. x.offset) c.in_err-place.ensures in
+    let first : start ≡ word_ptr start 0 = ap (λ y. (start.0, y)) (omega arith) in
+    rw p.1 (first ∙ ap (word_ptr start) at)
 
 -- what the call was lent, and of it the words of the list that is told
 abbrev given : After-choose-words → Given

@@ -1,5 +1,5 @@
 -- `accepts` is the test of number 7: its walk reads the whole table.
-use mathlib.Core.Path.{sym, ◌∙◌}
+use mathlib.Core.Path.{sym}
 use native.Mathlib.Omega.{arith}
 use Rattle.term.proofs.Accepted.{refuses}
 use Rattle.term.proofs.Walk.{walked_whole}
@@ -17,4 +17,4 @@ returns-then-table-n c = let a = c.args in sym (refuses a.table.now a.n (λ A. o
 pub returns : goal.returns
 returns c =
     let a = c.args in
-    c.eq.ensures ∙ walked_whole a.table.now _ _ a.n (omega arith) (omega arith) (omega arith) c.part_end.result c.part_end.ensures
+    walked_whole a.table.now _ _ a.n (omega arith) (omega arith) (omega arith) c.part_end.result c.part_end.ensures

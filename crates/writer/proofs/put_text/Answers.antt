@@ -1,4 +1,5 @@
 -- `put_text` puts the text of the whole table in the dialect that it is told.
+use mathlib.Core.Path.{sym}
 use Rattle.term.proofs.Accepted.{tree_accepted}
 use Rattle.writer.proofs.Whole.{whole_puttable, names_put}
 use Rattle.writer.proofs.put_text.Goals as goal
@@ -12,4 +13,6 @@ returns-in-Names c =
     rw c.in-Names.is (names_put a.tree.now.words a.tree.now.n c.put_part.ensures)
 
 pub returns-in-Numbers : goal.returns-in-Numbers
-returns-in-Numbers c = rw c.in-Numbers.is c.put_numbers.ensures
+returns-in-Numbers c =
+    let same = c.copied.ensures in
+    rw (c.in-Numbers.is, sym same.0, sym same.1) c.put_numbers.ensures
